@@ -1,0 +1,153 @@
+-- Laws of hits: of a prefix that meets, by its length, and of the hits among some starts. Assumes nothing.
+use mathlib.Core.Path.{_≡_, refl, sym, ap, _∙_}
+use mathlib.Core.Bool.{Bool, true, false, _&&_, and-false}
+use mathlib.Core.List.{List, [], _∷_, _++_}
+use mathlib.Core.Logic.{⊎-elim}
+use Prim.Native.Nat.{ℕ, zero, suc, _+_, _≤_, _<_, zero-le}
+use native.Mathlib.Nat.{add-suc, suc-add, zero-add, add-zero, le-refl, eq-or-lt-of-le, le-of-suc-le-suc, not-suc-le-zero}
+use native.Mathlib.Numerals.{add-one}
+use native.Mathlib.Omega.{arith}
+use borrow.Author.Tests.{lt-leb, le-leb, leb-true}
+use lib.Dec.{leb}
+use lib.ListN.{length, getD}
+use Rattle.letters.specs.Letters.{meets}
+use Rattle.letters.specs.Members.{keep}
+use Rattle.letters.proofs.Truth.{and-true-l, and-true-r}
+use Rattle.hits.specs.Hits.{met, hitAt, hitsFrom, hits}
+
+-- The family of `met`. There is no law of transitivity: where one is wanted, the letter in the middle is single (`single-same`)
+module _ (P T : List ℕ) (i : ℕ) where
+  -- letter j of P meets the text under it
+  abbrev pub meetsAt : ℕ → Bool
+  meetsAt j = meets (getD P j 0) (getD T (i + j) 0)
+
+  -- nothing to show
+  pub met-none : met P T i 0 ≡ true
+  unfolding met
+  met-none = refl
+
+  -- one letter more
+  pub met-on : (j : ℕ) → met P T i j ≡ true → meetsAt j ≡ true → met P T i (j + 1) ≡ true
+  unfolding met
+  met-on j a b = rw (add-one j, a, b)
+
+  -- each letter
+  pub met-at : (h j : ℕ) → met P T i h ≡ true → j < h → meetsAt j ≡ true
+  unfolding met
+  met-at zero j e l = absurd (not-suc-le-zero l)
+  met-at (suc h) j e l =
+      ⊎-elim
+      (λ (q : j ≡ h). rw q (and-true-r (met P T i h) (meetsAt h) e))
+      (λ (q : j < h). met-at h j (and-true-l (met P T i h) (meetsAt h) e) q)
+      (eq-or-lt-of-le (le-of-suc-le-suc l))
+
+  -- from each letter
+  pub met-all : (h : ℕ) → ((j : ℕ) → j < h → meetsAt j ≡ true) → met P T i h ≡ true
+  unfolding met
+  met-all zero f = refl
+  met-all (suc h) f = rw (met-all h (λ j l. f j (omega arith)), f h (omega arith))
+
+  -- fewer letters
+  pub met-less : (h k : ℕ) → met P T i h ≡ true → k ≤ h → met P T i k ≡ true
+  met-less h k e l = met-all k (λ j m. met-at h j e (omega arith))
+
+  -- one letter that does not meet
+  pub met-fail : (h j : ℕ) → j < h → meetsAt j ≡ false → met P T i h ≡ false
+  unfolding met
+  met-fail zero j l b = absurd (not-suc-le-zero l)
+  met-fail (suc h) j l b =
+      ⊎-elim
+      (λ (e : j ≡ h). rw (← e, b) (and-false (met P T i j)))
+      (λ (k : j < h). rw (met-fail h j k b))
+      (eq-or-lt-of-le (le-of-suc-le-suc l))
+
+  -- a start that fits is a hit exactly if all letters meet
+  pub hit-is : i + length P ≤ length T → hitAt P T i ≡ met P T i (length P)
+  unfolding hitAt
+  hit-is l = rw (le-leb (i + length P) (length T) l)
+
+  pub hit-fits : hitAt P T i ≡ true → i + length P ≤ length T
+  unfolding hitAt
+  hit-fits e = leb-true _ _ (and-true-l (leb (i + length P) (length T)) _ e)
+
+  pub hit-met : hitAt P T i ≡ true → met P T i (length P) ≡ true
+  unfolding hitAt
+  hit-met e = and-true-r (leb (i + length P) (length T)) _ e
+
+  -- a letter that does not meet: no hit
+  pub no-hit : (j : ℕ) → j < length P → meetsAt j ≡ false → hitAt P T i ≡ false
+  unfolding hitAt
+  no-hit j l b = rw (met-fail (length P) j l b) (and-false (leb (i + length P) (length T)))
+
+module _ (P T : List ℕ) where
+  -- no hit starts past n - m
+  pub no-hit-past : (a : ℕ) → length T < a + length P → hitAt P T a ≡ false
+  unfolding hitAt
+  no-hit-past a h = rw (lt-leb (a + length P) (length T) h)
+
+  -- starts that are no hits give none
+  pub none-from : (c a : ℕ) → ((i : ℕ) → a ≤ i → i < a + c → hitAt P T i ≡ false) → hitsFrom P T c a ≡ []
+  unfolding hitsFrom
+  none-from zero a h = refl
+  none-from (suc c) a h = rw (h a (omega arith) (omega arith)) (none-from c (suc a) (λ i l k. h i (omega arith) (omega arith)))
+
+  pub past-from : (c a : ℕ) → length T < a + length P → hitsFrom P T c a ≡ []
+  past-from c a h = none-from c a (λ i l k. no-hit-past i (omega arith))
+
+  -- a start that is tested, and starts after it that are no hits
+  pub one-from : (c a : ℕ) → ((i : ℕ) → a < i → i < a + suc c → hitAt P T i ≡ false) → hitsFrom P T (suc c) a ≡ keep (hitAt P T a) a []
+  unfolding hitsFrom
+  one-from c a h = ap (keep (hitAt P T a) a) (none-from c (suc a) (λ i l k. h i (omega arith) (omega arith)))
+
+  keep-append : (b : Bool) (a : ℕ) (xs ys : List ℕ) → keep b a (xs ++ ys) ≡ keep b a xs ++ ys
+  keep-append true a xs ys = refl
+  keep-append false a xs ys = refl
+
+  -- c + d starts are c starts and then d
+  pub from-add : (c d a : ℕ) → hitsFrom P T (c + d) a ≡ hitsFrom P T c a ++ hitsFrom P T d (a + c)
+  unfolding hitsFrom
+  from-add zero d a = rw (zero-add d, add-zero a)
+  from-add (suc c) d a =
+      rw (suc-add c d, from-add c d (suc a), suc-add a c, add-suc a c)
+      (keep-append (hitAt P T a) a (hitsFrom P T c (suc a)) (hitsFrom P T d (suc (a + c))))
+
+  -- past the text's end nothing is added
+  pub from-enough : (c d a : ℕ) → length T < c + a → length T < d + a → hitsFrom P T c a ≡ hitsFrom P T d a
+  unfolding hitsFrom
+  from-enough zero d a h k = sym (past-from d a (omega arith))
+  from-enough (suc c) zero a h k = past-from (suc c) a (omega arith)
+  from-enough (suc c) (suc d) a h k = rw (from-enough c d (suc a) (omega arith) (omega arith))
+
+  length-keep : (b : Bool) (a : ℕ) (xs : List ℕ) → length (keep b a xs) ≤ suc (length xs)
+  length-keep true a xs = le-refl _
+  length-keep false a xs = omega arith
+
+  pub length-from : (c a : ℕ) → length (hitsFrom P T c a) ≤ c
+  unfolding hitsFrom
+  length-from zero a = zero-le
+  length-from (suc c) a = omega (arith, length-keep (hitAt P T a) a (hitsFrom P T c (suc a)), length-from c (suc a))
+
+  pub length-hits : length (hits P T) ≤ suc (length T)
+  unfolding hits
+  length-hits = length-from (suc (length T)) 0
+
+  -- a pattern longer than the text has none
+  pub too-long : length T < length P → hits P T ≡ []
+  unfolding hits
+  too-long l = past-from (suc (length T)) 0 (omega arith)
+
+  -- the hits from a on
+  unfoldable pub rest : ℕ → List ℕ
+  rest a = hitsFrom P T (suc (length T)) a
+
+  pub rest-split : (c a : ℕ) → rest a ≡ hitsFrom P T c a ++ rest (a + c)
+  unfolding rest
+  rest-split c a = from-enough (suc (length T)) (c + suc (length T)) a (omega arith) (omega arith) ∙ from-add c (suc (length T)) a
+
+  pub rest-past : (a : ℕ) → length T < a + length P → rest a ≡ []
+  unfolding rest
+  rest-past a l = past-from (suc (length T)) a l
+
+  pub rest-all : rest 0 ≡ hits P T
+  unfolding rest hits
+  rest-all = refl

@@ -1,0 +1,35 @@
+-- Which starts are hits, the list of all hits, and what a lent list holds after it was written there.
+--
+--   met P T i h        the first h letters of P meet T from i on
+--   hitAt P T i        start i is a hit
+--   hitsFrom P T c a   the hits among the c starts from a on, ascending
+--   hits P T           all hits, ascending
+--   over xs d          xs written over the front of d, as far as d reaches; the rest of d as it was
+--
+-- A letter that is not there is read as 0, which meets nothing.
+use Prim.Native.Nat.{ℕ, zero, suc, _+_}
+use mathlib.Core.Bool.{Bool, true, _&&_}
+use mathlib.Core.List.{List, [], _∷_}
+use lib.Dec.{leb}
+use lib.ListN.{length, getD}
+use Rattle.letters.specs.Letters.{meets}
+use Rattle.letters.specs.Members.{keep}
+
+unfoldable pub met : List ℕ → List ℕ → ℕ → ℕ → Bool
+met P T i zero = true
+met P T i (suc h) = met P T i h && meets (getD P h 0) (getD T (i + h) 0)
+
+unfoldable pub hitAt : List ℕ → List ℕ → ℕ → Bool
+hitAt P T i = leb (i + length P) (length T) && met P T i (length P)
+
+unfoldable pub hitsFrom : List ℕ → List ℕ → ℕ → ℕ → List ℕ
+hitsFrom P T zero a = []
+hitsFrom P T (suc c) a = keep (hitAt P T a) a (hitsFrom P T c (suc a))
+
+unfoldable pub hits : List ℕ → List ℕ → List ℕ
+hits P T = hitsFrom P T (suc (length T)) 0
+
+unfoldable pub over : List ℕ → List ℕ → List ℕ
+over [] d = d
+over (x ∷ xs) [] = []
+over (x ∷ xs) (y ∷ d) = x ∷ over xs d

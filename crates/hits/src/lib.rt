@@ -1,0 +1,2 @@
+// Hits, and what a search counts.
+pub mod work;

@@ -1,0 +1,2 @@
+pub mod BadLaws
+pub mod CheckLaws

@@ -1,0 +1,27 @@
+-- What a search answers, and what it leaves in the lent list: the promise of all six engines.
+use Prim.Native.Nat.{ℕ}
+use mathlib.Core.List.{List}
+use Rattle.promise.specs.Promised.{Promised}
+use Rattle.hits.specs.Hits.{hits, over}
+use Rattle.hits.specs.Turns.{Run}
+use Rattle.hits.specs.Counts.{workOf}
+use Rattle.inputs.specs.declared.refusal.Check.{Check}
+use Rattle.inputs.specs.declared.refusal.Check.the-variants.{Passed, Refused}
+use Rattle.inputs.specs.declared.refusal.Answer.{Answer}
+use Rattle.inputs.specs.declared.refusal.Answer.the-variants.{Found, Refused as AnswerRefused}
+use Rattle.inputs.specs.Refusals.{verdict}
+
+-- the refusal's number and place; or the total of all hits and the three counts
+abbrev pub answerOf : Check → List ℕ → Run → Answer
+answerOf (Refused r) hs w = AnswerRefused r
+answerOf Passed hs w = Found (workOf hs w)
+
+-- the first hits, as far as the list reaches, and the rest as it was; all as it was where the search is refused
+abbrev pub listOf : Check → List ℕ → List ℕ → List ℕ
+listOf (Refused r) hs d = d
+listOf Passed hs d = over hs d
+
+-- a search for P in T by an engine whose rule makes this run. d is the lent list before, `left` the list afterwards
+abbrev pub Searched : (List ℕ → List ℕ → Run) → ℕ → ℕ → ℕ → ℕ → List ℕ → List ℕ → List ℕ → Answer → List ℕ → Type 0
+Searched rule K M N k P T d r left =
+    Promised (answerOf (verdict K M N k P T) (hits P T) (rule P T)) (listOf (verdict K M N k P T) (hits P T) d) r left

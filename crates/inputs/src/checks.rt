@@ -1,0 +1,104 @@
+// The checks 1 to 5 of a search, in this order.
+use crate::refusal::Check;
+use crate::refusal::Refusal;
+use letters::letter::Letter;
+use pattern::Pattern;
+ghost use mathlib.Core.Path.{_≡_};
+ghost use Prim.Native.Nat.{_≤_};
+ghost use Rattle.inputs.specs.Refusals.{bad, firstBad, someBad, verdict};
+
+pub struct Text {
+    pub len: usize,
+}
+
+impl Text {
+    // The longest text.
+    pub const MAX_N: usize = 65536;
+}
+
+fn wide(x: u32) -> u64
+    ensures { λ r. ⌜ r ≡ x ⌝ }
+{
+    x as u64
+}
+
+fn refused(number: u32, place: usize) -> Check
+    ensures { λ r. ⌜ r ≡ Check.Refused (record { number = number; place = place }) ⌝ }
+{
+    Check::Refused(Refusal { number, place })
+}
+
+// Whether c is no letter of an alphabet of k.
+pub fn is_bad(k: u32, c: u32) -> bool
+    requires { ⌜ k ≤ 32 ⌝ }
+    ensures { λ r. ⌜ r ≡ bad k c ⌝ }
+{
+    if c == 0 {
+        return true;
+    }
+    1u64 << k <= wide(c)
+}
+
+// The lowest index of such a letter, or the length.
+pub fn first_bad(k: u32, s: &[u32]) -> usize
+    requires { ⌜ k ≤ 32 ⌝ }
+    ensures { λ r. ⌜ r ≡ firstBad k (now (s .entry)) ⌝ }
+{
+    let mut i = 0;
+    while i < s.len() {
+        if is_bad(k, s[i]) {
+            return i;
+        }
+        i += 1;
+    }
+    i
+}
+
+// Whether there is such a letter: one pass without an early exit, which the compiler makes wide.
+pub fn any_bad(k: u32, s: &[u32]) -> bool
+    requires { ⌜ k ≤ 32 ⌝ }
+    ensures { λ r. ⌜ r ≡ someBad k (now (s .entry)) ⌝ }
+{
+    let mut all: u32 = 0;
+    let mut empty = false;
+    let mut i = 0;
+    while i < s.len() {
+        let c = s[i];
+        all = all | c;
+        if c == 0 {
+            empty = true;
+        }
+        i += 1;
+    }
+    if empty {
+        return true;
+    }
+    1u64 << k <= wide(all)
+}
+
+pub fn checked(k: u32, p: &[u32], t: &[u32]) -> Check
+    ensures { λ r. do ⌜ r ≡ verdict (← ⟦Letter::MAX_K⟧ .entry) (← ⟦Pattern::MAX_M⟧ .entry) (← ⟦Text::MAX_N⟧ .entry) k (now (p .entry)) (now (t .entry)) ⌝ }
+{
+    if k == 0 {
+        return refused(1, 0);
+    }
+    if Letter::MAX_K < k {
+        return refused(1, 0);
+    }
+    if p.len() == 0 {
+        return refused(2, 0);
+    }
+    if Pattern::MAX_M < p.len() {
+        return refused(2, 0);
+    }
+    if Text::MAX_N < t.len() {
+        return refused(3, 0);
+    }
+    if any_bad(k, p) {
+        return refused(4, first_bad(k, p));
+    }
+    if any_bad(k, t) {
+        return refused(5, first_bad(k, t));
+    }
+    Check::Passed
+}

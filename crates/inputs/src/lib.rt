@@ -1,0 +1,3 @@
+// What a search is given: the checks that refuse it, and what it answers.
+pub mod checks;
+pub mod refusal;

@@ -1,0 +1,5 @@
+pub mod Truth
+pub mod DigitLaws
+pub mod LowestLaws
+pub mod LetterLaws
+pub mod MemberLaws

@@ -1,0 +1,32 @@
+use borrow.Author.Needs.{needs}
+use native.Mathlib.Omega.{arith}
+use mathlib.Core.Path.{_≡_, refl, sym, ap, _∙_}
+use mathlib.Core.Bool.{Bool, true, false}
+use mathlib.Core.Logic.{⊎-elim}
+use mathlib.Core.List.{List}
+use Prim.Native.Nat.{ℕ, zero, suc, _+_, _-_, _*_, _≤_, _<_, min, max}
+use borrow.Author.Tests.{not-true, not-false}
+use lib.ListN.{length, getD, set}
+use lib.Dec.{eqb}
+use Rattle.letters.specs.Letters.{member}
+use Rattle.letters.proofs.DigitLaws.{digit-pow, digit-above}
+use Rattle.letters.proofs.LetterLaws.{no-member}
+use Rattle.letters.proofs.letter.Letter.has.Statement.{statement}
+use Rattle.letters.proofs.letter.Letter.has.Tie as tie
+use Rattle.letters.proofs.letter.Letter.has.Reads as reads
+use Rattle.letters.proofs.letter.Letter.has.Lts as lts
+
+shr-result : tie.Need-shr-result
+shr-result c = search needs
+
+returns : tie.Need-returns
+unfolding member
+returns c = ap (λ (d : ℕ). eqb d 1) (sym (digit-pow (c .before .before .args .b) (c .before .before .args .self .bits)))
+
+returns-2 : tie.Need-returns-2
+returns-2 c =
+    let a = c .before .args in
+    sym (no-member (a .b) (a .self .bits) (digit-above 32 (a .b) (a .self .bits) (search needs) (omega arith)))
+
+pub has-spec : {M : Type 1} → statement M
+has-spec = tie.close (tie.spec shr-result returns returns-2)

@@ -1,0 +1,3 @@
+pub mod Digits
+pub mod Letters
+pub mod Members

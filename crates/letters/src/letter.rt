@@ -1,0 +1,64 @@
+// A letter as a set of base letters: bit b stands for base letter b.
+ghost use mathlib.Core.Path.{_≡_};
+ghost use Rattle.letters.specs.Letters.{member, shared, meets, single};
+
+pub struct Letter {
+    pub bits: u32,
+}
+
+impl Letter {
+    // The largest alphabet.
+    pub const MAX_K: u32 = 32;
+
+    // The letter with these bits.
+    pub fn of(bits: u32) -> Self
+        ensures { λ r. ⌜ r .bits ≡ bits ⌝ }
+    {
+        Self { bits }
+    }
+
+    // Whether base letter b is a member.
+    pub fn has(self, b: u32) -> bool
+        ensures { λ r. ⌜ r ≡ member b (self .bits) ⌝ }
+    {
+        if b < Letter::MAX_K {
+            return (self.bits >> b) % 2 == 1;
+        }
+        false
+    }
+
+    // The letter of the common members.
+    pub fn shared(self, other: Letter) -> Letter
+        ensures { λ r. ⌜ r .bits ≡ shared (self .bits) (other .bits) ⌝ }
+    {
+        Letter::of(self.bits & other.bits)
+    }
+
+    // Whether the two share a member.
+    pub fn meets(self, other: Letter) -> bool
+        ensures { λ r. ⌜ r ≡ meets (self .bits) (other .bits) ⌝ }
+    {
+        self.shared(other).bits != 0
+    }
+
+    // Whether there is one member, by the count of ones.
+    pub fn is_single(self) -> bool
+        ensures { λ r. ⌜ r ≡ single (self .bits) ⌝ }
+    {
+        u32::count_ones(self.bits) == 1
+    }
+}
+
+// A test: whether a pattern letter and a text letter meet.
+pub fn meet(a: u32, b: u32) -> bool
+    ensures { λ r. ⌜ r ≡ meets a b ⌝ }
+{
+    Letter::of(a).meets(Letter::of(b))
+}
+
+// Whether a letter of a lent string has one member.
+pub fn lone(c: u32) -> bool
+    ensures { λ r. ⌜ r ≡ single c ⌝ }
+{
+    Letter::of(c).is_single()
+}

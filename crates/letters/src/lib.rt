@@ -1,0 +1,3 @@
+// Letters: sets of base letters in 32 bits.
+pub mod letter;
+pub mod members;

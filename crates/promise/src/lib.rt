@@ -1,0 +1,1 @@
+// What the contract of a public call is made of stands in specs/; there is no code here.
