@@ -1,2 +1,3 @@
-// Hits, and what a search counts.
+// Hits, the scan that finds one, and what a search counts.
+pub mod scan;
 pub mod work;

@@ -1,0 +1,5 @@
+pub mod SpanLaws
+pub mod LeastLaws
+pub mod SingleLaws
+pub mod BackLaws
+pub mod ShiftLaws

@@ -1,0 +1,118 @@
+-- Laws of stretches of single letters. Assumes nothing.
+use mathlib.Core.Path.{_≡_, refl, sym, ap, ap₂, _∙_, subst}
+use mathlib.Core.Bool.{Bool, true, false, cond, not, _&&_, and-false}
+use mathlib.Core.Logic.{_⊎_, inl, inr, ⊎-elim}
+use mathlib.Core.List.{List}
+use Prim.Native.Nat.{ℕ, zero, suc, _+_, _-_, _*_, _/_, _%_, _≤_, _<_, zero-le, min, max}
+use native.Mathlib.Nat.{mod-lt, div-add-mod', eq-or-lt-of-le, eq-zero-or-pos, le-of-suc-le-suc}
+use native.Mathlib.Numerals.{add-one}
+use native.Mathlib.Omega.{arith}
+use borrow.Author.Tests.{eq-eqb, eqb-true, eqb-false, not-true, leb-true, leb-false, le-leb, lt-leb}
+use lib.Bits.{bitAnd, and-step, and-zero-l, and-zero-r}
+use lib.Count.{ones, ones-step}
+use lib.Dec.{eqb, leb, lit<}
+use lib.ListN.{getD}
+use Rattle.letters.proofs.Truth.{bool-cases}
+use Rattle.letters.specs.Letters.{single}
+use Rattle.shifts.specs.Singles.{plain, unsureBelow}
+use Rattle.letters.proofs.Truth.{and-true-l, and-true-r}
+
+module _ (T : List ℕ) where
+  pub plain-at : (a c j : ℕ) → plain T a c ≡ true → a ≤ j → j < a + c → single (getD T j 0) ≡ true
+  unfolding plain
+  plain-at a zero j e l k = absurd (omega arith)
+  plain-at a (suc c) j e l k =
+      ⊎-elim
+      (λ (q : j ≡ a + c). rw q (and-true-r (plain T a c) _ e))
+      (λ (q : j < a + c). plain-at a c j (and-true-l _ (single (getD T (a + c) 0)) e) l q)
+      (eq-or-lt-of-le (below (omega arith)))
+    where
+      below : j ≤ a + c → j ≤ a + c
+      below x = x
+
+  pub unsure-le : (e : ℕ) → unsureBelow T e ≤ e
+  unfolding unsureBelow
+  unsure-le zero = zero-le
+  unsure-le (suc e) = bool-cases (single (getD T e 0)) (λ y. rw y (omega (arith, unsure-le e))) (λ n. rw n (omega arith))
+
+  pub unsure-yes : (e : ℕ) → single (getD T e 0) ≡ true → unsureBelow T (suc e) ≡ unsureBelow T e
+  unfolding unsureBelow
+  unsure-yes e y = rw y
+
+  pub unsure-no : (e : ℕ) → single (getD T e 0) ≡ false → unsureBelow T (suc e) ≡ suc e
+  unfolding unsureBelow
+  unsure-no e y = rw y
+
+  -- a stretch is plain exactly if the last unsure letter stands before it
+  pub plain-unsure : (a c : ℕ) → plain T a c ≡ leb (unsureBelow T (a + c)) a
+  unfolding plain
+  plain-unsure a zero = let z : a + 0 ≡ a = omega arith in rw z (sym (le-leb _ _ (unsure-le a)))
+  plain-unsure a (suc c) =
+      let z : a + suc c ≡ suc (a + c) = omega arith in
+      rw z
+      (bool-cases (single (getD T (a + c) 0))
+      (λ y. rw (y, unsure-yes (a + c) y) (and-yes _ ∙ plain-unsure a c))
+      (λ n. rw (n, unsure-no (a + c) n) (and-no (plain T a c) ∙ sym (lt-leb (suc (a + c)) a (omega arith)))))
+    where
+      and-yes : (b : Bool) → (b && true) ≡ b
+      and-yes true = refl
+      and-yes false = refl
+
+      and-no : (b : Bool) → (b && false) ≡ false
+      and-no true = refl
+      and-no false = refl
+
+module _ (T : List ℕ) (a : ℕ) where
+  pub plain-none : plain T a 0 ≡ true
+  unfolding plain
+  plain-none = refl
+
+  pub plain-more : (c : ℕ) → plain T a c ≡ true → single (getD T (a + c) 0) ≡ true → plain T a (c + 1) ≡ true
+  unfolding plain
+  plain-more c x y = rw (add-one c, x, y)
+
+  pub plain-fail : (c j : ℕ) → j < c → single (getD T (a + j) 0) ≡ false → plain T a c ≡ false
+  unfolding plain
+  plain-fail zero j l e = absurd (omega arith)
+  plain-fail (suc c) j l e =
+      ⊎-elim
+      (λ (q : j ≡ c). rw (← q, e) (and-false (plain T a j)))
+      (λ (q : j < c). rw (plain-fail c j q e))
+      (eq-or-lt-of-le (le-of-suc-le-suc l))
+
+  pub plain-short : (c d : ℕ) → plain T a c ≡ true → d ≤ c → plain T a d ≡ true
+  unfolding plain
+  plain-short zero d e l = let z : d ≡ 0 = omega arith in rw z
+  plain-short (suc c) d e l =
+      ⊎-elim
+      (λ (q : d ≡ suc c). rw q e)
+      (λ (q : d < suc c). plain-short c d (and-true-l (plain T a c) _ e) (omega arith))
+      (eq-or-lt-of-le l)
+
+  -- a stretch is plain exactly if it ends no later than the first unsure letter, or the last letter that was looked at
+  pub plain-upto : (c m : ℕ) → plain T a c ≡ true → (c < m → single (getD T (a + c) 0) ≡ false) → (h : ℕ) → h ≤ m → plain T a h ≡ leb h c
+  plain-upto c m e stop h l =
+      bool-cases (leb h c)
+      (λ y. plain-short c h e (leb-true _ _ y) ∙ sym y)
+      (λ n. let k : c < h = leb-false _ _ n in plain-fail h c k (stop (omega arith)) ∙ sym n)
+
+module _ (T : List ℕ) where
+  -- a part of a plain stretch
+  pub plain-part : (a c b d : ℕ) → plain T a c ≡ true → a ≤ b → b + d ≤ a + c → plain T b d ≡ true
+  unfolding plain
+  plain-part a c b zero e l k = refl
+  plain-part a c b (suc d) e l k = rw (plain-part a c b d e l (omega arith), plain-at T a c (b + d) e (omega arith) (omega arith))
+
+  -- one letter more on the left
+  pub plain-cons : (a c : ℕ) → plain T a (suc c) ≡ (single (getD T a 0) && plain T (suc a) c)
+  unfolding plain
+  plain-cons a zero = let z : a + 0 ≡ a = omega arith in rw z (yes (single (getD T a 0)))
+    where
+      yes : (b : Bool) → (true && b) ≡ (b && true)
+      yes true = refl
+      yes false = refl
+  plain-cons a (suc c) = let z : a + suc c ≡ suc a + c = omega arith in rw (plain-cons a c, z) (assoc (single (getD T a 0)) _ _)
+    where
+      assoc : (x y w : Bool) → ((x && y) && w) ≡ (x && (y && w))
+      assoc true y w = refl
+      assoc false y w = refl

@@ -1,0 +1,5 @@
+pub mod Singles
+pub mod Spans
+pub mod Least
+pub mod Shift
+pub mod Back
