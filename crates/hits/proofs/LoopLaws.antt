@@ -16,7 +16,7 @@ use Rattle.hits.proofs.RunLaws.{Sound, run-stop, run-turn, finds-all, t
 -- the loop of a sound engine with the list d lent: at the state s it has written `past` over d and counted w, and the run from s does the rest
 pub record SoFar {S : Type 0} {P T : List ℕ} {more : S → Bool} {turn : S → Turn S} {F : ℕ} {s₀ : S} (e : Sound P T more turn F s₀) (d : List ℕ) (s : S) (list : List ℕ) (w : Work) : Type 0 where
   pub fine : e .ok s
-  pub near : e .left s < F
+  pub near : e .left s ≤ F
   pub past : List ℕ
   pub lists : list ≡ over past d
   pub totals : w .total ≡ length past

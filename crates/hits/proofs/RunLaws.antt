@@ -3,10 +3,10 @@ use mathlib.Core.Path.{_≡_, refl, sym, ap, _∙_}
 use mathlib.Core.Bool.{Bool, true, false}
 use mathlib.Core.List.{List, _++_}
 use Prim.Native.Nat.{ℕ, zero, suc, _+_, _-_, _*_, _≤_, _<_}
-use native.Mathlib.Nat.{not-suc-le-zero, mul-le-mul-left}
+use native.Mathlib.Nat.{mul-le-mul-left}
 use native.Mathlib.Omega.{arith}
 use lib.ListN.{length}
-use Rattle.letters.proofs.Truth.{bool-cases}
+use Rattle.letters.proofs.Truth.{bool-cases, both-ways}
 use Rattle.hits.specs.Hits.{hitsFrom, hits}
 use Rattle.hits.specs.Turns.{Turn, Run, idle, after, run}
 use Rattle.hits.proofs.HitLaws.{rest, rest-split, rest-past, rest-all, length-hits}
@@ -25,7 +25,7 @@ pub record Sound {S : Type 0} (P T : List ℕ) (more : S → Bool) (turn : S →
   pub settled : S → ℕ
   pub ok : S → Type 0
   pub begins : ok s₀
-  pub enough : left s₀ < F
+  pub enough : left s₀ ≤ F
   pub nothing : settled s₀ ≡ 0
   pub fair : (s : S) → ok s → more s ≡ true → Fair P T left settled ok s (turn s)
   pub ends : (s : S) → ok s → more s ≡ false → length T < settled s + length P
@@ -41,8 +41,15 @@ module _ {S : Type 0} (more : S → Bool) (turn : S → Turn S) where
   run-on f s h = rw h
 
 module _ {S : Type 0} {P T : List ℕ} {more : S → Bool} {turn : S → Turn S} {F : ℕ} {s₀ : S} (e : Sound P T more turn F s₀) where
-  finds : (f : ℕ) (s : S) → e .ok s → e .left s < f → run more turn f s .found ≡ rest P T (e .settled s)
-  finds zero s o h = absurd (not-suc-le-zero h)
+  -- with no turn left there is no more to do
+  stuck : (s : S) → e .ok s → e .left s ≤ 0 → more s ≡ false
+  stuck s o h = bool-cases (more s) (λ y. absurd (let v = e .fair s o y .falls in omega arith)) (λ n. n)
+
+  idles : (f : ℕ) (s : S) → e .ok s → more s ≡ false → run more turn f s .found ≡ rest P T (e .settled s)
+  idles f s o n = ap (λ (r : Run). r .found) (run-stop more turn f s n) ∙ sym (rest-past P T (e .settled s) (e .ends s o n))
+
+  finds : (f : ℕ) (s : S) → e .ok s → e .left s ≤ f → run more turn f s .found ≡ rest P T (e .settled s)
+  finds zero s o h = idles zero s o (stuck s o h)
   finds (suc f) s o h =
       bool-cases (more s)
       (λ y. let w = e .fair s o y in
@@ -50,7 +57,7 @@ module _ {S : Type 0} {P T : List ℕ} {more : S → Bool} {turn : S → Turn S}
       ap (λ (r : Run). r .found) (run-on more turn f s y)
       ∙ ap (λ (xs : List ℕ). turn s .found ++ xs) (finds f (turn s .next) (w .still) (omega arith))
       ∙ rw (w .right, w .moved) (sym (rest-split P T (w .gap) (e .settled s))))
-      (λ n. ap (λ (r : Run). r .found) (run-stop more turn (suc f) s n) ∙ sym (rest-past P T (e .settled s) (e .ends s o n)))
+      (λ n. idles (suc f) s o n)
 
   -- a sound engine finds exactly the hits
   pub finds-all : run more turn F s₀ .found ≡ hits P T
@@ -60,9 +67,9 @@ module _ {S : Type 0} {P T : List ℕ} {more : S → Bool} {turn : S → Turn S}
   total-small = rw finds-all (length-hits P T)
 
   -- how many turns a run is allowed does not matter, if they are enough
-  run-enough : (f g : ℕ) (s : S) → e .ok s → e .left s < f → e .left s < g → run more turn f s ≡ run more turn g s
-  run-enough zero g s o h k = absurd (not-suc-le-zero h)
-  run-enough (suc f) zero s o h k = absurd (not-suc-le-zero k)
+  run-enough : (f g : ℕ) (s : S) → e .ok s → e .left s ≤ f → e .left s ≤ g → run more turn f s ≡ run more turn g s
+  run-enough zero g s o h k = run-stop more turn zero s (stuck s o h) ∙ sym (run-stop more turn g s (stuck s o h))
+  run-enough (suc f) zero s o h k = run-stop more turn (suc f) s (stuck s o k) ∙ sym (run-stop more turn zero s (stuck s o k))
   run-enough (suc f) (suc g) s o h k =
       bool-cases (more s)
       (λ y. let w = e .fair s o y in
@@ -71,8 +78,8 @@ module _ {S : Type 0} {P T : List ℕ} {more : S → Bool} {turn : S → Turn S}
       (λ n. run-stop more turn (suc f) s n ∙ sym (run-stop more turn (suc g) s n))
 
   -- a run is a turn and the run from the next state
-  pub run-turn : (s : S) (f : ℕ) → e .ok s → e .left s < f → more s ≡ true → run more turn f s ≡ after (turn s) (run more turn f (turn s .next))
-  run-turn s zero o l y = absurd (not-suc-le-zero l)
+  pub run-turn : (s : S) (f : ℕ) → e .ok s → e .left s ≤ f → more s ≡ true → run more turn f s ≡ after (turn s) (run more turn f (turn s .next))
+  run-turn s zero o l y = absurd (both-ways (more s) y (stuck s o l))
   run-turn s (suc f) o l y =
       let w = e .fair s o y in
       let v = w .falls in

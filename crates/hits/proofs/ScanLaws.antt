@@ -2,18 +2,20 @@
 use mathlib.Core.Path.{_≡_, refl, sym, ap, _∙_}
 use mathlib.Core.Bool.{Bool, true, false}
 use mathlib.Core.List.{List}
+use mathlib.Core.Logic.{⊎-elim}
 use Prim.Native.Nat.{ℕ, zero, suc, _+_, _-_, _≤_, _<_, zero-le}
+use native.Mathlib.Nat.{eq-or-lt-of-le}
 use native.Mathlib.Numerals.{add-one}
 use native.Mathlib.Omega.{arith}
-use borrow.Author.Tests.{le-ltb, lt-ltb}
-use lib.Dec.{ltb}
-use lib.ListN.{getD}
+use borrow.Author.Tests.{le-ltb, lt-ltb, eqb-true, eqb-false}
+use lib.Dec.{ltb, eqb}
+use lib.ListN.{length, getD}
 use Rattle.letters.specs.Letters.{meets}
 use Rattle.letters.proofs.Truth.{bool-cases}
-use Rattle.hits.specs.Hits.{met}
+use Rattle.hits.specs.Hits.{met, hitAt}
 use Rattle.hits.specs.Scans.{reach, tests}
 use Rattle.hits.specs.Counts.{tally}
-use Rattle.hits.proofs.HitLaws.{meetsAt, met-on, met-at, met-fail}
+use Rattle.hits.proofs.HitLaws.{meetsAt, met-none, met-on, met-fail, hit-is, no-hit}
 
 module _ (P T : List ℕ) (i : ℕ) where
   abbrev at : ℕ → Bool
@@ -83,3 +85,30 @@ module _ (P T : List ℕ) (i h : ℕ) where
 
   pub reach-short : reach P T i 0 h < h → met P T i h ≡ false
   reach-short l = met-fail P T i h (reach P T i 0 h) l (reach-halt P T i 0 h (omega arith))
+
+-- a start is a hit exactly if a scan reaches the pattern's end, from any letters that meet already
+pub reach-hit : (P T : List ℕ) (i r : ℕ) → i + length P ≤ length T → r ≤ length P → met P T i r ≡ true
+    → eqb (reach P T i r (length P - r)) (length P) ≡ hitAt P T i
+reach-hit P T i r l k a =
+    let z : r + (length P - r) ≡ length P = omega arith in
+    let u = reach-le P T i r (length P - r) in
+    let w = reach-met P T i r (length P - r) a in
+    bool-cases (eqb (reach P T i r (length P - r)) (length P))
+    (λ y. let e : reach P T i r (length P - r) ≡ length P = eqb-true _ _ y in y ∙ sym (hit-is P T i l ∙ rw e at w))
+    (λ n. let e = eqb-false (reach P T i r (length P - r)) (length P) n in
+    let h : reach P T i r (length P - r) < length P = less u z e in
+    n ∙ sym (no-hit P T i (reach P T i r (length P - r)) h (reach-halt P T i r (length P - r) (omega arith))))
+  where
+    less : reach P T i r (length P - r) ≤ r + (length P - r) → r + (length P - r) ≡ length P → (reach P T i r (length P - r) ≡ length P → ⊥) → reach P T i r (length P - r) < length P
+    less u z n = ⊎-elim (λ q. absurd (n (q ∙ z))) (λ (q : reach P T i r (length P - r) < r + (length P - r)). omega arith) (eq-or-lt-of-le u)
+
+-- the same for a whole scan, as brute and Sunday make it
+pub scan-hit : (P T : List ℕ) (i : ℕ) → i + length P ≤ length T → eqb (reach P T i 0 (length P)) (length P) ≡ hitAt P T i
+scan-hit P T i l = let z : length P - 0 ≡ length P = omega arith in rw z at (reach-hit P T i 0 l (omega arith) (met-none P T i))
+
+-- and its tests, from how far it went
+pub scan-tests : (P T : List ℕ) (i j : ℕ) → j ≡ reach P T i 0 (length P) → tests P T i 0 (length P) ≡ j + tally (ltb j (length P))
+scan-tests P T i j e =
+    let z : 0 + length P ≡ length P = omega arith in
+    let w = rw (z, ← e) at (tests-reach P T i 0 (length P)) in
+    omega arith

@@ -1,6 +1,7 @@
 -- Which starts are hits, the list of all hits, and what a lent list holds after it was written there.
 --
 --   met P T i h        the first h letters of P meet T from i on
+--   within P T i       start i is at most n - m
 --   hitAt P T i        start i is a hit
 --   hitsFrom P T c a   the hits among the c starts from a on, ascending
 --   hits P T           all hits, ascending
@@ -19,8 +20,11 @@ unfoldable pub met : List ℕ → List ℕ → ℕ → ℕ → Bool
 met P T i zero = true
 met P T i (suc h) = met P T i h && meets (getD P h 0) (getD T (i + h) 0)
 
+abbrev pub within : List ℕ → List ℕ → ℕ → Bool
+within P T i = leb (i + length P) (length T)
+
 unfoldable pub hitAt : List ℕ → List ℕ → ℕ → Bool
-hitAt P T i = leb (i + length P) (length T) && met P T i (length P)
+hitAt P T i = within P T i && met P T i (length P)
 
 unfoldable pub hitsFrom : List ℕ → List ℕ → ℕ → ℕ → List ℕ
 hitsFrom P T zero a = []

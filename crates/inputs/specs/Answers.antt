@@ -25,3 +25,16 @@ listOf Passed hs d = over hs d
 abbrev pub Searched : (List ℕ → List ℕ → Run) → ℕ → ℕ → ℕ → ℕ → List ℕ → List ℕ → List ℕ → Answer → List ℕ → Type 0
 Searched rule K M N k P T d r left =
     Promised (answerOf (verdict K M N k P T) (hits P T) (rule P T)) (listOf (verdict K M N k P T) (hits P T) d) r left
+
+-- the counts of an answer; none where the search is refused
+abbrev pub scanOf : Answer → ℕ
+scanOf (AnswerRefused r) = 0
+scanOf (Found w) = w .scan
+
+abbrev pub shiftOf : Answer → ℕ
+shiftOf (AnswerRefused r) = 0
+shiftOf (Found w) = w .shift
+
+abbrev pub stepsOf : Answer → ℕ
+stepsOf (AnswerRefused r) = 0
+stepsOf (Found w) = w .steps
