@@ -104,11 +104,11 @@ module _ {S : Type 0} {P T : List ℕ} {more : S → Bool} {turn : S → Turn S}
         → at s₀ ≡ 0 → cost (run more turn F s₀) ≤ c * (length T + 1 - length P)
     per-start at c within goes small z =
         let h = bounded (λ (s : S). c * (length T + 1 - (at s + length P)))
-                (λ s o y.
-                let w = within s y in
-                let g = goes s o y in
-                let k : suc (length T + 1 - (at (turn s .next) + length P)) ≤ length T + 1 - (at s + length P) = omega arith in
-                omega (arith, small s o y, mul-le-mul-left c k))
+        (λ s o y.
+        let w = within s y in
+        let g = goes s o y in
+        let k : suc (length T + 1 - (at (turn s .next) + length P)) ≤ length T + 1 - (at s + length P) = omega arith in
+        omega (arith, small s o y, mul-le-mul-left c k))
         in
         let k : length T + 1 - (at s₀ + length P) ≤ length T + 1 - length P = omega arith in
         omega (arith, h, mul-le-mul-left c k)

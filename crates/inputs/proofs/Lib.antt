@@ -1,4 +1,3 @@
 pub mod BadLaws
 pub mod CheckLaws
 pub mod SearchLaws
-pub mod Limits

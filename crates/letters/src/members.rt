@@ -47,12 +47,12 @@ pub fn greatest(tab: &[u32; 32], c: u32) -> u32
 pub fn union(rows: &[u64; 32], c: u32) -> u64
     ensures { λ r. do ⌜ r ≡ unionOf (now (rows .entry)) (members (← ⟦Letter::MAX_K⟧ .entry) c) ⌝ }
 {
-    let mut left = c;
+    let mut unseen = c;
     let mut all: u64 = 0;
-    while left != 0 {
-        let b = lowest(left) as usize;
+    while unseen != 0 {
+        let b = lowest(unseen) as usize;
         all = all | rows[b];
-        left = rest(left);
+        unseen = rest(unseen);
     }
     all
 }

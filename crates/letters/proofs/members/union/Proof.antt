@@ -22,10 +22,10 @@ use Rattle.letters.proofs.members.lowest.Reads as lowest-reads
 use Rattle.letters.proofs.members.rest.Reads as rest-reads
 
 abbrev Inv-loop : tie.InvT-loop
-Inv-loop rows c left₀ all₀ left all = (left < 2 ^ 32) × (bitOr all (unionOf rows (members 32 left)) ≡ unionOf rows (members 32 c))
+Inv-loop rows c unseen₀ all₀ unseen all = (unseen < 2 ^ 32) × (bitOr all (unionOf rows (members 32 unseen)) ≡ unionOf rows (members 32 c))
 
 abbrev μ-loop : tie.MeasureT-loop
-μ-loop rows c left₀ all₀ left all = left
+μ-loop rows c unseen₀ all₀ unseen all = unseen
 
 loop-holds : tie.Need-loop-holds Inv-loop μ-loop
 loop-holds c = search needs
@@ -42,23 +42,22 @@ mul-all c = search needs
 element-copy-out-all : tie.Need-element-copy-out-all Inv-loop μ-loop
 element-copy-out-all c =
     let l = c .before .before in
-    omega (arith, c .lowest .ensures, low 32 (l .loop .left) (omega arith) (l .loop .inv .0) .within)
+    omega (arith, c .lowest .ensures, low 32 (l .loop .unseen) (omega arith) (l .loop .inv .0) .within)
 
 rest-requires : tie.Need-rest-requires Inv-loop μ-loop
 rest-requires c κs = search needs
 
 loop-less : tie.Need-loop-less Inv-loop μ-loop
 loop-less c =
-    omega (arith, c .rest .ensures, rest-less (c .before .before .before .before .loop .left) (omega arith))
+    omega (arith, c .rest .ensures, rest-less (c .before .before .before .before .loop .unseen) (omega arith))
 
 loop-again : tie.Need-loop-again Inv-loop μ-loop
 loop-again c =
     let k = c .before .before in
     let l = k .before .before in
     let rows = l .before .args .rows .now in
-    let x = l .loop .left in
-    let s = rest-less x (omega arith) in
-    (
+    let x = l .loop .unseen in
+    let s = rest-less x (omega arith) in (
       omega (arith, c .rest .ensures),
       rw (c .rest .ensures, k .lowest .ensures)
           (or-assoc (l .loop .all) (getD rows (trailingZeros 32 x) 0) (unionOf rows (members 32 (bitAnd x (x - 1))))
@@ -69,7 +68,7 @@ loop-again c =
 returns : tie.Need-returns Inv-loop μ-loop
 returns c =
     let l = c .before in
-    let z : l .loop .left ≡ 0 = omega arith in
+    let z : l .loop .unseen ≡ 0 = omega arith in
     sym (or-zero-r (l .loop .all)) ∙ ap (bitOr (l .loop .all)) (sym (union-end 32 (l .before .args .rows .now))) ∙ rw z at (l .loop .inv .1)
 
 pub union-spec : {M : Type 1} → statement M
