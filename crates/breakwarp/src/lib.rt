@@ -1,0 +1,3 @@
+// The library for C: each function is a shell over one library call. It keeps no state and uses no heap.
+pub mod codes;
+pub mod searches;
