@@ -1,19 +1,40 @@
 # make search SHEET=sheets/worked.sheet   prove what the program needs, build it, and search a sheet
-# make test                               the gate, the same as .ci/run
+# make test                               the gate and the tests from outside, the same as .ci/run
+# make lib                                prove the library and build target/staticlib/libbreakwarp.a
+# make install DESTDIR=.. PREFIX=..       header, archive, program, man pages, pkg-config file; make uninstall removes them
+# make bench                              time the six searches beside plain C
 # make fmt                                lay out every .rt and .antt file
 SHEET ?= sheets/worked.sheet
-.PHONY: search test fmt
+PREFIX ?= /usr/local
+DESTDIR ?=
+VERSION = 1.0
+I = $(DESTDIR)$(PREFIX)
+.PHONY: search program lib test bench fmt install uninstall
 
-search:
-	@if grep -q '^search:' crates.txt; then \
-	  rt check search >target-search.log 2>&1 || { tail -n 20 target-search.log; exit 1; }; rm -f target-search.log; \
-	  target/bin/search < $(SHEET); \
-	else \
-	  echo "The program search is not there yet; make test proves the library as it stands."; \
-	fi
+search: program
+	@target/bin/search < $(SHEET)
+
+program:
+	@mkdir -p target && rt check search > target/search.out 2>&1 || { tail -n 20 target/search.out; exit 1; }
+
+lib:
+	@mkdir -p target && rt staticlib breakwarp > target/lib.out 2>&1 || { tail -n 20 target/lib.out; exit 1; }
 
 test:
 	bash .ci/run
 
 fmt:
 	rt fmt
+
+install: lib program
+	install -d $(I)/include $(I)/lib/pkgconfig $(I)/bin $(I)/share/man/man1 $(I)/share/man/man3
+	install -m 644 c/breakwarp.h $(I)/include/
+	install -m 644 target/staticlib/libbreakwarp.a $(I)/lib/
+	sed -e 's|@PREFIX@|$(PREFIX)|' -e 's|@VERSION@|$(VERSION)|' c/breakwarp.pc.in > $(I)/lib/pkgconfig/breakwarp.pc
+	install -m 755 target/bin/search $(I)/bin/
+	install -m 644 c/search.1 $(I)/share/man/man1/
+	install -m 644 c/breakwarp.3 $(I)/share/man/man3/
+
+uninstall:
+	rm -f $(I)/include/breakwarp.h $(I)/lib/libbreakwarp.a $(I)/lib/pkgconfig/breakwarp.pc $(I)/bin/search \
+	  $(I)/share/man/man1/search.1 $(I)/share/man/man3/breakwarp.3

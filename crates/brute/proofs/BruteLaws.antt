@@ -1,8 +1,7 @@
 -- Brute is sound, so its run finds the hits; and it makes at most m tests a start. Assumes nothing.
 use mathlib.Core.Path.{_≡_, refl, sym, ap, _∙_}
-use mathlib.Core.Bool.{true}
 use mathlib.Core.List.{List, []}
-use Prim.Native.Nat.{ℕ, suc, _+_, _-_, _*_, _≤_, _<_}
+use Prim.Native.Nat.{ℕ, suc, _+_, _-_, _*_, _≤_}
 use native.Mathlib.Nat.{mul-le-mul-left, mul-le-mul-right}
 use native.Mathlib.Omega.{arith}
 use borrow.Author.Tests.{leb-true, leb-false}
@@ -12,7 +11,7 @@ use Rattle.hits.specs.Hits.{within, hits}
 use Rattle.hits.specs.Turns.{Turn, Run}
 use Rattle.hits.proofs.HitLaws.{one-from}
 use Rattle.hits.proofs.ScanLaws.{scan-hit, tests-le}
-use Rattle.hits.proofs.RunLaws.{Sound, Fair, finds-all, per-start}
+use Rattle.hits.proofs.RunLaws.{Sound, finds-all, per-start}
 use Rattle.brute.specs.Brute.{bruteTurn, bruteRun}
 
 module _ (P T : List ℕ) where

@@ -1,7 +1,7 @@
 -- Laws of hits: of a prefix that meets, by its length, and of the hits among some starts. Assumes nothing.
 use mathlib.Core.Path.{_≡_, refl, sym, ap, _∙_}
-use mathlib.Core.Bool.{Bool, true, false, _&&_, and-false}
-use mathlib.Core.List.{List, [], _∷_, _++_}
+use mathlib.Core.Bool.{Bool, true, false, and-false}
+use mathlib.Core.List.{List, [], _++_}
 use mathlib.Core.Logic.{⊎-elim}
 use Prim.Native.Nat.{ℕ, zero, suc, _+_, _≤_, _<_, zero-le}
 use native.Mathlib.Nat.{add-suc, suc-add, zero-add, add-zero, le-refl, eq-or-lt-of-le, le-of-suc-le-suc, not-suc-le-zero}

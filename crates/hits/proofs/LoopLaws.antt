@@ -1,13 +1,13 @@
 -- What the loop of any sound engine keeps, and the laws that answer its needs. Assumes nothing.
 use mathlib.Core.Path.{_≡_, refl, sym, ap, _∙_}
 use mathlib.Core.Bool.{Bool, true, false}
-use mathlib.Core.List.{List, [], _∷_, _++_, append-assoc, append-nil}
-use Prim.Native.Nat.{ℕ, zero, suc, _+_, _≤_, _<_}
+use mathlib.Core.List.{List, [], _++_, append-assoc, append-nil}
+use Prim.Native.Nat.{ℕ, suc, _+_, _≤_}
 use native.Mathlib.Omega.{arith}
 use lib.ListN.{length, length-append}
 use Rattle.letters.specs.Members.{keep}
 use Rattle.hits.specs.Hits.{hits, over}
-use Rattle.hits.specs.Turns.{Turn, Run, idle, after, run}
+use Rattle.hits.specs.Turns.{Turn, Run, after, run}
 use Rattle.hits.specs.Counts.{tally, noted, notedAll, workOf}
 use Rattle.hits.specs.declared.work.Work.{Work}
 use Rattle.hits.proofs.ListLaws.{length-over, noted-over, noted-keep, tally-keep}

@@ -1,5 +1,5 @@
 -- The list of hits, for a reader: a start is in it exactly if it is a hit, it ascends strictly, and it is the only such list. Assumes nothing.
-use mathlib.Core.Path.{_≡_, refl, sym, ap, ap₂, _∙_, subst}
+use mathlib.Core.Path.{_≡_, refl, sym, ap, ap₂, _∙_}
 use mathlib.Core.Bool.{Bool, true, false}
 use mathlib.Core.List.{List, [], _∷_}
 use mathlib.Core.Logic.{_⊎_, inl, inr, ⊎-elim}
@@ -7,13 +7,12 @@ use Prim.Native.Nat.{ℕ, zero, suc, _+_, _≤_, _<_}
 use native.Mathlib.Nat.{eq-or-lt-of-le}
 use native.Mathlib.Omega.{arith}
 use lib.ListN.{length, getD}
-use Rattle.letters.specs.Letters.{meets}
 use Rattle.letters.specs.Members.{keep}
-use Rattle.letters.proofs.Truth.{bool-cases, both-ways}
+use Rattle.letters.proofs.Truth.{both-ways}
 use Rattle.letters.proofs.LetterLaws.{meets-some, some-meets, member-digit, digit-member}
-use Rattle.hits.specs.Hits.{met, hitAt, hitsFrom, hits}
+use Rattle.hits.specs.Hits.{hitAt, hitsFrom, hits}
 use Rattle.hits.specs.Meaning.{Hit, Listed, Ascends}
-use Rattle.hits.proofs.HitLaws.{met-at, met-all, hit-is, hit-fits, hit-met, no-hit-past}
+use Rattle.hits.proofs.HitLaws.{met-at, met-all, hit-is, hit-fits, hit-met}
 
 module _ (P T : List ℕ) where
   -- the test is the meaning

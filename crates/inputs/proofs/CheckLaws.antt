@@ -10,7 +10,7 @@ use lib.ListN.{length}
 use Rattle.letters.proofs.Truth.{or-false-l, or-false-r}
 use Rattle.inputs.specs.Refusals.{verdict, refuse}
 use Rattle.inputs.specs.declared.refusal.Check.{Check}
-use Rattle.inputs.specs.declared.refusal.Check.the-variants.{Passed, Refused}
+use Rattle.inputs.specs.declared.refusal.Check.the-variants.{Passed}
 
 pub record Sized (M N : ℕ) (P T : List ℕ) : Type 0 where
   pub some : 0 < length P

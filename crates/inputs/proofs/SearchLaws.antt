@@ -2,7 +2,6 @@
 use mathlib.Core.Path.{_≡_, refl, ap}
 use mathlib.Core.List.{List}
 use Prim.Native.Nat.{ℕ}
-use Rattle.promise.specs.Promised.{Promised}
 use Rattle.promise.proofs.Uniqueness.{one-outcome}
 use Rattle.hits.specs.Hits.{hits, over}
 use Rattle.hits.specs.Turns.{Run}

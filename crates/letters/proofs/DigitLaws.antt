@@ -1,7 +1,7 @@
 -- Laws of `digit`: each operation on numbers, digit by digit. Assumes nothing.
 use mathlib.Core.Path.{_≡_, refl, sym, ap, _∙_}
 use mathlib.Core.Logic.{⊎-elim}
-use Prim.Native.Nat.{ℕ, zero, suc, _+_, _-_, _*_, _/_, _%_, _^_, _≤_, _<_, min, max}
+use Prim.Native.Nat.{ℕ, zero, suc, _+_, _-_, _/_, _%_, _^_, _≤_, _<_, min, max}
 use native.Mathlib.Nat.{eq-zero-or-pos, lt-of-lt-of-le, pow-suc, le-of-suc-le-suc, not-suc-le-zero, zero-lt-suc, div-div-eq-div-mul, mul-comm, div-one}
 use native.Mathlib.Omega.{arith}
 use lib.Arith.{lt-one}

@@ -1,15 +1,15 @@
 -- Laws of letters: what meeting means, that it is symmetric and not transitive, and what single means. Assumes nothing.
 use mathlib.Core.Path.{_≡_, refl, sym, ap, _∙_, subst}
-use mathlib.Core.Bool.{Bool, true, false, not}
+use mathlib.Core.Bool.{true, false, not}
 use mathlib.Core.Logic.{_⊎_, inl, inr, ⊎-elim}
-use Prim.Native.Nat.{ℕ, zero, suc, _+_, _-_, _/_, _%_, _^_, _≤_, _<_, min}
+use Prim.Native.Nat.{ℕ, zero, suc, _+_, _-_, _/_, _%_, _^_, _≤_, _<_}
 use native.Mathlib.Nat.{eq-zero-or-pos, pow-suc, lt-of-lt-of-le}
 use native.Mathlib.Omega.{arith}
 use borrow.Author.Tests.{eq-eqb, ne-eqb, eqb-true, eqb-false, not-true, leb-true, leb-false}
 use lib.Arith.{lt-one}
-use lib.Bits.{bitAnd, and-step, and-comm, and-zero-r}
+use lib.Bits.{bitAnd, and-comm, and-zero-r}
 use lib.Count.{ones, ones-step}
-use lib.Dec.{eqb, leb}
+use lib.Dec.{leb}
 use lib.Pow.{pow-pos, pow-mono}
 use Rattle.letters.specs.Digits.{digit}
 use Rattle.letters.specs.Letters.{member, shared, meets, single}

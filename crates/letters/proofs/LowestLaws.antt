@@ -1,14 +1,14 @@
 -- The lowest set digit, which trailing zeros find, and what is left without it. Assumes nothing.
-use mathlib.Core.Path.{_≡_, refl, sym, ap, _∙_, subst}
-use mathlib.Core.Logic.{_⊎_, inl, inr, ⊎-elim}
-use Prim.Native.Nat.{ℕ, zero, suc, _+_, _-_, _/_, _%_, _^_, _≤_, _<_, min}
+use mathlib.Core.Path.{_≡_, refl, ap, _∙_, subst}
+use mathlib.Core.Logic.{_⊎_, inl, inr}
+use Prim.Native.Nat.{ℕ, zero, suc, _-_, _/_, _%_, _^_, _<_}
 use native.Mathlib.Nat.{zero-lt-suc, eq-zero-or-pos, pow-suc, not-suc-le-zero}
 use native.Mathlib.Omega.{arith}
 use lib.Arith.{lt-one}
 use lib.Bits.{bitAnd, and-step, and-le-r}
 use lib.Count.{trailingZeros}
 use Rattle.letters.specs.Digits.{digit}
-use Rattle.letters.proofs.DigitLaws.{digit-and, digit-lt}
+use Rattle.letters.proofs.DigitLaws.{digit-and}
 
 -- t is the lowest set digit of x, a number of k digits; the others stay when it is cleared
 pub record Low (k x t : ℕ) : Type 0 where

@@ -1,22 +1,21 @@
 -- The loop over members: taking the lowest and going on without it visits the members in order. Assumes nothing.
-use mathlib.Core.Path.{_≡_, refl, sym, ap, _∙_}
-use mathlib.Core.Bool.{Bool, true, false}
+use mathlib.Core.Path.{_≡_, refl, sym, ap}
+use mathlib.Core.Bool.{true, false}
 use mathlib.Core.List.{List, [], _∷_}
 use mathlib.Core.Logic.{⊎-elim}
 use Prim.Native.Nat.{ℕ, zero, suc, _+_, _-_, _^_, _≤_, _<_, max}
 use native.Mathlib.Nat.{eq-or-lt-of-le}
 use native.Mathlib.Omega.{arith}
-use lib.Bits.{bitAnd, bitOr, or-zero-r}
+use lib.Bits.{bitAnd, bitOr}
 use lib.Count.{trailingZeros}
 use lib.Dec.{eqb}
 use lib.ListN.{getD}
-use Rattle.letters.specs.Digits.{digit}
 use Rattle.letters.specs.Letters.{member}
-use Rattle.letters.specs.Members.{keep, membersFrom, members, greatestOf, unionOf}
+use Rattle.letters.specs.Members.{membersFrom, members, greatestOf, unionOf}
 use Rattle.letters.proofs.DigitLaws.{digit-zero}
 use Rattle.letters.proofs.Truth.{bool-cases}
 use Rattle.letters.proofs.LetterLaws.{digit-member, no-member}
-use Rattle.letters.proofs.LowestLaws.{Low, low}
+use Rattle.letters.proofs.LowestLaws.{low}
 
 -- letters with the same members among those from b on
 from-same : (x y b f : ℕ) → ((j : ℕ) → b ≤ j → member j x ≡ member j y) → membersFrom x b f ≡ membersFrom y b f

@@ -1,30 +1,28 @@
 -- Laws of a shift found by trying: what it passes over is no hit, what the trials cost, and where a table gives it. Assumes nothing.
-use mathlib.Core.Path.{_≡_, refl, sym, ap, _∙_, subst}
-use mathlib.Core.Bool.{Bool, true, false, cond, _||_, or-true}
+use mathlib.Core.Path.{_≡_, sym, ap, _∙_}
+use mathlib.Core.Bool.{Bool, true, false, _||_, or-true}
 use mathlib.Core.List.{List}
 use Prim.Native.Nat.{ℕ, zero, suc, _+_, _-_, _*_, _≤_, _<_, zero-le, min}
 use native.Mathlib.Nat.{mul-le-mul-left}
 use native.Mathlib.Omega.{arith}
-use borrow.Author.Tests.{ltb-true, ltb-false, lt-ltb, le-ltb, le-leb, lt-leb, leb-true, leb-false}
+use borrow.Author.Tests.{ltb-false, lt-ltb, le-ltb, le-leb, lt-leb, leb-true, leb-false}
 use lib.Dec.{leb, ltb}
 use lib.ListN.{length, getD}
-use Rattle.hits.specs.Hits.{hitAt, met}
+use Rattle.hits.specs.Hits.{hitAt}
 use Rattle.hits.specs.Scans.{reach, tests}
 use Rattle.hits.specs.Counts.{tally}
 use native.Mathlib.Numerals.{add-one}
-use Rattle.letters.proofs.Truth.{bool-cases}
+use Rattle.letters.proofs.Truth.{bool-cases, or-false-l, or-false-r}
 use Rattle.hits.proofs.HitLaws.{hit-is}
 use Rattle.hits.proofs.ScanLaws.{tests-le, tests-reach, reach-ge}
-use Rattle.letters.specs.Letters.{single}
 use Rattle.shifts.specs.Singles.{plain}
 use Rattle.shifts.specs.Spans.{span}
 use Rattle.shifts.specs.Least.{least}
 use Rattle.shifts.specs.Shift.{covers, fit, trial, trials, selfFit}
-use Rattle.letters.proofs.Truth.{or-false-l, or-false-r}
 use Rattle.shifts.proofs.SingleLaws.{plain-at}
 use Rattle.letters.proofs.LetterLaws.{single-same}
 use Rattle.shifts.proofs.SpanLaws.{span-at, span-miss, span-same, span-reach}
-use Rattle.shifts.proofs.LeastLaws.{least-same, least-cut, least-ge, least-le}
+use Rattle.shifts.proofs.LeastLaws.{least-same, least-cut}
 
 module _ (P T : List ℕ) (i lo hi : ℕ) where
   -- beyond the last start every shift fits

@@ -1,21 +1,18 @@
 -- Laws of stretches of single letters. Assumes nothing.
-use mathlib.Core.Path.{_≡_, refl, sym, ap, ap₂, _∙_, subst}
-use mathlib.Core.Bool.{Bool, true, false, cond, not, _&&_, and-false}
-use mathlib.Core.Logic.{_⊎_, inl, inr, ⊎-elim}
+use mathlib.Core.Path.{_≡_, refl, sym, _∙_}
+use mathlib.Core.Bool.{Bool, true, false, _&&_, and-false}
+use mathlib.Core.Logic.{_⊎_, ⊎-elim}
 use mathlib.Core.List.{List}
-use Prim.Native.Nat.{ℕ, zero, suc, _+_, _-_, _*_, _/_, _%_, _≤_, _<_, zero-le, min, max}
-use native.Mathlib.Nat.{mod-lt, div-add-mod', eq-or-lt-of-le, eq-zero-or-pos, le-of-suc-le-suc}
+use Prim.Native.Nat.{ℕ, zero, suc, _+_, _-_, _≤_, _<_, zero-le}
+use native.Mathlib.Nat.{eq-or-lt-of-le, le-of-suc-le-suc}
 use native.Mathlib.Numerals.{add-one}
 use native.Mathlib.Omega.{arith}
-use borrow.Author.Tests.{eq-eqb, eqb-true, eqb-false, not-true, leb-true, leb-false, le-leb, lt-leb}
-use lib.Bits.{bitAnd, and-step, and-zero-l, and-zero-r}
-use lib.Count.{ones, ones-step}
-use lib.Dec.{eqb, leb, lit<}
+use borrow.Author.Tests.{leb-true, leb-false, le-leb, lt-leb}
+use lib.Dec.{leb}
 use lib.ListN.{getD}
-use Rattle.letters.proofs.Truth.{bool-cases}
+use Rattle.letters.proofs.Truth.{bool-cases, and-true-l, and-true-r}
 use Rattle.letters.specs.Letters.{single}
 use Rattle.shifts.specs.Singles.{plain, unsureBelow}
-use Rattle.letters.proofs.Truth.{and-true-l, and-true-r}
 
 module _ (T : List ℕ) where
   pub plain-at : (a c j : ℕ) → plain T a c ≡ true → a ≤ j → j < a + c → single (getD T j 0) ≡ true

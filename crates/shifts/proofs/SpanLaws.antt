@@ -1,23 +1,22 @@
 -- Laws of a stretch of a pattern against a text, by how far a scan goes. Assumes nothing.
-use mathlib.Core.Path.{_≡_, refl, sym, ap, _∙_, subst}
-use mathlib.Core.Bool.{Bool, true, false, cond, _&&_}
+use mathlib.Core.Path.{_≡_, refl, sym, ap, _∙_}
+use mathlib.Core.Bool.{Bool, true, false, _&&_}
 use mathlib.Core.Logic.{⊎-elim}
 use mathlib.Core.List.{List}
-use Prim.Native.Nat.{ℕ, zero, suc, _+_, _-_, _≤_, _<_, zero-le}
-use native.Mathlib.Nat.{eq-or-lt-of-le, add-suc, suc-add, add-zero}
+use Prim.Native.Nat.{ℕ, zero, suc, _+_, _-_, _≤_, _<_}
+use native.Mathlib.Nat.{eq-or-lt-of-le}
 use native.Mathlib.Numerals.{add-one}
 use native.Mathlib.Omega.{arith}
-use borrow.Author.Tests.{le-leb, lt-leb, le-ltb, lt-ltb}
-use lib.Dec.{leb, ltb}
+use borrow.Author.Tests.{le-leb, lt-leb}
+use lib.Dec.{leb}
 use lib.ListN.{getD}
 use Rattle.letters.specs.Letters.{meets}
 use Rattle.hits.specs.Hits.{met}
 use Rattle.hits.specs.Scans.{reach}
-use Rattle.letters.proofs.Truth.{bool-cases}
+use Rattle.letters.proofs.Truth.{bool-cases, and-true-l, and-true-r}
 use Rattle.hits.proofs.HitLaws.{met-on, met-fail}
 use Rattle.hits.proofs.ScanLaws.{reach-ge}
 use Rattle.shifts.specs.Spans.{span}
-use Rattle.letters.proofs.Truth.{and-true-l, and-true-r}
 
 module _ (P T : List ℕ) (i : ℕ) where
   abbrev at : ℕ → Bool

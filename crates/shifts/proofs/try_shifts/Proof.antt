@@ -1,13 +1,11 @@
+-- `shifts::try_shifts` meets its contract: the trials so far, with those left, are all of the rule's. Assumes nothing.
 use borrow.Author.Needs.{needs}
 use native.Mathlib.Omega.{arith}
 use mathlib.Core.Path.{_≡_, refl, sym, ap, _∙_}
 use mathlib.Core.Bool.{Bool, true, false}
-use mathlib.Core.Logic.{⊎-elim}
-use mathlib.Core.List.{List}
-use Prim.Native.Nat.{ℕ, zero, suc, _+_, _-_, _*_, _≤_, _<_, min, max}
-use borrow.Author.Tests.{not-true, not-false}
-use lib.ListN.{length, getD, set}
+use Prim.Native.Nat.{ℕ, _+_, _-_, _*_, _≤_, _<_}
 use borrow.Author.Tests.{le-leb, lt-leb}
+use lib.ListN.{length}
 use Rattle.hits.specs.Counts.{tally}
 use Rattle.hits.specs.Scans.{reach}
 use lib.Dec.{ltb, leb}
@@ -15,14 +13,9 @@ use Rattle.shifts.specs.Least.{least}
 use Rattle.shifts.specs.Shift.{fit, trial, trials}
 use Rattle.hits.proofs.ScanLaws.{reach-ge, reach-le}
 use Rattle.shifts.proofs.LeastLaws.{to-here, to-on, to-end}
-use Rattle.shifts.proofs.ShiftLaws.{fit-out, fit-all, trial-out, trials-here, trials-on, trials-end, trial-is, fit-is}
+use Rattle.shifts.proofs.ShiftLaws.{fit-out, trial-out, trials-here, trials-on, trials-end, trial-is, fit-is}
 use Rattle.shifts.proofs.try_shifts.Statement.{statement}
 use Rattle.shifts.proofs.try_shifts.Tie as tie
-use Rattle.shifts.proofs.try_shifts.Reads as reads
-use Rattle.shifts.proofs.try_shifts.Lts as lts
-use Rattle.hits.proofs.work.count.Reads as count-reads
-use Rattle.shifts.proofs.less.Reads as less-reads
-use Rattle.hits.proofs.scan.reach_to.Reads as reach-to-reads
 
 abbrev Inv-loop : tie.InvT-loop
 Inv-loop p t i lo hi n m s₀ tests₀ s tests =

@@ -1,18 +1,11 @@
+-- `breakwarp::codes::counted` meets its contract: a small number is itself. Assumes nothing.
 use borrow.Author.Needs.{needs}
 use native.Mathlib.Omega.{arith}
-use mathlib.Core.Path.{_≡_, refl, sym, ap, _∙_}
-use mathlib.Core.Bool.{Bool, true, false}
-use mathlib.Core.Logic.{⊎-elim}
-use mathlib.Core.List.{List}
-use Prim.Native.Nat.{ℕ, zero, suc, _+_, _-_, _*_, _≤_, _<_, min, max}
-use borrow.Author.Tests.{not-true, not-false}
-use lib.ListN.{length, getD, set}
+use Prim.Native.Nat.{_-_}
 use mir.Syntax.{w64}
 use mir.ValLaws.{toZ-pos}
 use Rattle.breakwarp.proofs.codes.counted.Statement.{statement}
 use Rattle.breakwarp.proofs.codes.counted.Tie as tie
-use Rattle.breakwarp.proofs.codes.counted.Reads as reads
-use Rattle.breakwarp.proofs.codes.counted.Lts as lts
 
 cast-result : tie.Need-cast-result
 cast-result c = search needs

@@ -1,18 +1,10 @@
+-- `breakwarp::codes::refused` meets its contract: minus the number fits. Assumes nothing.
 use borrow.Author.Needs.{needs}
-use native.Mathlib.Omega.{arith}
-use mathlib.Core.Path.{_≡_, refl, sym, ap, _∙_}
-use mathlib.Core.Bool.{Bool, true, false}
-use mathlib.Core.Logic.{⊎-elim}
-use mathlib.Core.List.{List}
-use Prim.Native.Nat.{ℕ, zero, suc, _+_, _-_, _*_, _≤_, _<_, min, max}
-use borrow.Author.Tests.{not-true, not-false}
-use lib.ListN.{length, getD, set}
+use Prim.Native.Nat.{_-_}
 use Rattle.breakwarp.specs.Codes.{refusedCode}
 use Rattle.breakwarp.proofs.CodeLaws.{minus-fits, minus-is}
 use Rattle.breakwarp.proofs.codes.refused.Statement.{statement}
 use Rattle.breakwarp.proofs.codes.refused.Tie as tie
-use Rattle.breakwarp.proofs.codes.refused.Reads as reads
-use Rattle.breakwarp.proofs.codes.refused.Lts as lts
 
 cast-result : tie.Need-cast-result
 cast-result c = search needs

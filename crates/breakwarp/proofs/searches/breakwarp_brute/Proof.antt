@@ -1,22 +1,13 @@
+-- `breakwarp_brute` meets its contract: the laws of a call answer both cases. Assumes nothing.
 use borrow.Author.Needs.{needs}
 use native.Mathlib.Omega.{arith}
-use mathlib.Core.Path.{_≡_, refl, sym, ap, _∙_}
-use mathlib.Core.Bool.{Bool, true, false}
-use mathlib.Core.Logic.{⊎-elim}
-use mathlib.Core.List.{List}
-use Prim.Native.Nat.{ℕ, zero, suc, _+_, _-_, _*_, _≤_, _<_, min, max}
-use borrow.Author.Tests.{not-true, not-false}
-use lib.ListN.{length, getD, set}
+use mathlib.Core.Path.{_∙_}
+use Prim.Native.Nat.{_-_}
 use Rattle.brute.specs.Brute.{bruteRun}
 use Rattle.breakwarp.proofs.CodeLaws.{read-back}
 use Rattle.breakwarp.proofs.CallLaws.{called-short, called-full, called-total}
 use Rattle.breakwarp.proofs.searches.breakwarp_brute.Statement.{statement}
 use Rattle.breakwarp.proofs.searches.breakwarp_brute.Tie as tie
-use Rattle.breakwarp.proofs.searches.breakwarp_brute.Reads as reads
-use Rattle.breakwarp.proofs.searches.breakwarp_brute.Lts as lts
-use Rattle.breakwarp.proofs.searches.told.Reads as told-reads
-use Rattle.breakwarp.proofs.searches.too_few.Reads as too-few-reads
-use Rattle.brute.proofs.search.Reads as search-reads
 
 too-few-requires : tie.Need-too-few-requires
 too-few-requires c κs = search needs

@@ -1,22 +1,12 @@
+-- `breakwarp::searches::told` meets its contract: three stores are the counts over the list's front. Assumes nothing.
 use borrow.Author.Needs.{needs}
-use native.Mathlib.Omega.{arith}
-use mathlib.Core.Path.{_≡_, refl, sym, ap, _∙_}
-use mathlib.Core.Bool.{Bool, true, false}
-use mathlib.Core.Logic.{⊎-elim}
-use mathlib.Core.List.{List}
-use Prim.Native.Nat.{ℕ, zero, suc, _+_, _-_, _*_, _≤_, _<_, min, max}
-use borrow.Author.Tests.{not-true, not-false}
-use lib.ListN.{length, getD, set}
+use mathlib.Core.Path.{refl, _∙_}
+use Prim.Native.Nat.{_-_}
 use lib.ListN.{length-set}
-use Rattle.breakwarp.specs.Answered.{totalOf, answeredCode, answeredCounts}
 use Rattle.breakwarp.proofs.CodeLaws.{read-back}
 use Rattle.breakwarp.proofs.CallLaws.{three-over}
 use Rattle.breakwarp.proofs.searches.told.Statement.{statement}
 use Rattle.breakwarp.proofs.searches.told.Tie as tie
-use Rattle.breakwarp.proofs.searches.told.Reads as reads
-use Rattle.breakwarp.proofs.searches.told.Lts as lts
-use Rattle.breakwarp.proofs.codes.counted.Reads as counted-reads
-use Rattle.breakwarp.proofs.codes.refused.Reads as refused-reads
 
 enum-known-a : tie.Need-enum-known-a
 enum-known-a c = search needs

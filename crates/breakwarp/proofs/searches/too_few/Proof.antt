@@ -1,21 +1,11 @@
+-- `breakwarp::searches::too_few` meets its contract: what the checks say picks the case. Assumes nothing.
 use borrow.Author.Needs.{needs}
-use native.Mathlib.Omega.{arith}
-use mathlib.Core.Path.{_≡_, refl, sym, ap, _∙_}
-use mathlib.Core.Bool.{Bool, true, false}
-use mathlib.Core.Logic.{⊎-elim}
-use mathlib.Core.List.{List}
-use Prim.Native.Nat.{ℕ, zero, suc, _+_, _-_, _*_, _≤_, _<_, min, max}
-use borrow.Author.Tests.{not-true, not-false}
-use lib.ListN.{length, getD, set}
+use mathlib.Core.Path.{sym, _∙_}
+use Prim.Native.Nat.{_-_}
 use Rattle.breakwarp.specs.Codes.{refusedCode, shortCode}
-use Rattle.breakwarp.specs.Answered.{shortOf}
 use Rattle.breakwarp.proofs.CodeLaws.{read-back}
 use Rattle.breakwarp.proofs.searches.too_few.Statement.{statement}
 use Rattle.breakwarp.proofs.searches.too_few.Tie as tie
-use Rattle.breakwarp.proofs.searches.too_few.Reads as reads
-use Rattle.breakwarp.proofs.searches.too_few.Lts as lts
-use Rattle.breakwarp.proofs.codes.refused.Reads as refused-reads
-use Rattle.inputs.proofs.checks.checked.Reads as checked-reads
 
 checked-requires : tie.Need-checked-requires
 checked-requires c κs = search needs

@@ -1,19 +1,13 @@
+-- `hits::scan::reach_to` meets its contract: what is left of the scan reaches as far as the whole. Assumes nothing.
 use borrow.Author.Needs.{needs}
 use native.Mathlib.Omega.{arith}
-use mathlib.Core.Path.{_≡_, refl, sym, ap, _∙_}
-use mathlib.Core.Bool.{Bool, true, false}
-use mathlib.Core.Logic.{⊎-elim}
-use mathlib.Core.List.{List}
-use Prim.Native.Nat.{ℕ, zero, suc, _+_, _-_, _*_, _≤_, _<_, min, max}
+use mathlib.Core.Path.{_≡_, refl, sym, _∙_}
+use Prim.Native.Nat.{_-_, _≤_}
 use borrow.Author.Tests.{not-true, not-false}
-use lib.ListN.{length, getD, set}
 use Rattle.hits.specs.Scans.{reach}
 use Rattle.hits.proofs.ScanLaws.{reach-on, reach-stop, reach-end}
 use Rattle.hits.proofs.scan.reach_to.Statement.{statement}
 use Rattle.hits.proofs.scan.reach_to.Tie as tie
-use Rattle.hits.proofs.scan.reach_to.Reads as reads
-use Rattle.hits.proofs.scan.reach_to.Lts as lts
-use Rattle.letters.proofs.letter.meet.Reads as meet-reads
 
 abbrev Inv-loop : tie.InvT-loop
 Inv-loop p t i a b j₀ j = (a ≤ j) × (j ≤ b) × (reach p t i a (b - a) ≡ reach p t i j (b - j))

@@ -1,25 +1,16 @@
+-- `inputs::checks::any_bad` meets its contract: the pass keeps `Joined`. Assumes nothing.
 use borrow.Author.Needs.{needs}
 use native.Mathlib.Omega.{arith}
-use mathlib.Core.Path.{_≡_, refl, sym, ap, _∙_}
-use mathlib.Core.Bool.{Bool, true, false}
+use mathlib.Core.Path.{_≡_, subst}
 use mathlib.Core.Logic.{⊎-elim}
-use mathlib.Core.List.{List}
-use Prim.Native.Nat.{ℕ, zero, suc, _+_, _-_, _*_, _≤_, _<_, min, max}
-use borrow.Author.Tests.{not-true, not-false}
-use lib.ListN.{length, getD, set}
-use Prim.Native.Nat.{_^_, _%_}
+use Prim.Native.Nat.{ℕ, _-_, _*_, _≤_, _<_, _^_, _%_}
+use lib.ListN.{length}
 use native.Mathlib.Nat.{one-mul, mod-eq-of-lt, lt-of-le-of-lt}
-use lib.Dec.{leb, lit<}
+use lib.Dec.{lit<}
 use lib.Pow.{pow-mono}
-use mathlib.Core.Path.{subst}
-use lib.Bits.{bitOr}
-use Rattle.inputs.specs.Refusals.{bad, firstBad}
 use Rattle.inputs.proofs.BadLaws.{Joined, joined-zero, joined-full, joined-empty, any-empty, any-large}
 use Rattle.inputs.proofs.checks.any_bad.Statement.{statement}
 use Rattle.inputs.proofs.checks.any_bad.Tie as tie
-use Rattle.inputs.proofs.checks.any_bad.Reads as reads
-use Rattle.inputs.proofs.checks.any_bad.Lts as lts
-use Rattle.inputs.proofs.checks.wide.Reads as wide-reads
 
 one-shifted : (k : ℕ) → k ≤ 32 → 1 * 2 ^ k % 2 ^ 64 ≡ 2 ^ k
 one-shifted k h = rw (one-mul (2 ^ k)) (mod-eq-of-lt (lt-of-le-of-lt (pow-mono h) (lit< tt)))

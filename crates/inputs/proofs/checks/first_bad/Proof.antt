@@ -1,19 +1,13 @@
 -- `inputs::checks::first_bad` meets its contract: what is left of the list has its first bad letter as far on. Assumes nothing.
-use Prim.Native.Nat.{ℕ, suc, _+_, _-_, _≤_, _<_}
-use mathlib.Core.Path.{_≡_, refl, sym, ap, _∙_}
-use mathlib.Core.Bool.{true, false, cond}
+use Prim.Native.Nat.{ℕ, _+_, _-_, _≤_}
+use mathlib.Core.Path.{_≡_, sym, ap, _∙_}
 use native.Mathlib.Omega.{arith}
-use native.Mathlib.Numerals.{add-one}
 use borrow.Author.Needs.{needs}
-use lib.ListN.{length, drop, getD}
-use lib.Seq.{drop-cons, drop-length}
-use Rattle.inputs.specs.Refusals.{bad, firstBad}
+use lib.ListN.{length, drop}
+use Rattle.inputs.specs.Refusals.{firstBad}
 use Rattle.inputs.proofs.BadLaws.{first-here, first-on, first-end}
 use Rattle.inputs.proofs.checks.first_bad.Statement.{statement}
 use Rattle.inputs.proofs.checks.first_bad.Tie as tie
-use Rattle.inputs.proofs.checks.first_bad.Reads as reads
-use Rattle.inputs.proofs.checks.first_bad.Lts as lts
-use Rattle.inputs.proofs.checks.is_bad.Reads as is-bad-reads
 
 abbrev Inv-loop : tie.InvT-loop
 Inv-loop k s i₀ i = (i ≤ length s) × (firstBad k s ≡ i + firstBad k (drop i s))

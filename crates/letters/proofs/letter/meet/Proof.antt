@@ -1,19 +1,10 @@
+-- `letters::letter::meet` meets its contract. Assumes nothing.
 use borrow.Author.Needs.{needs}
-use native.Mathlib.Omega.{arith}
-use mathlib.Core.Path.{_≡_, refl, sym, ap, _∙_}
-use mathlib.Core.Bool.{Bool, true, false}
-use mathlib.Core.Logic.{⊎-elim}
-use mathlib.Core.List.{List}
-use Prim.Native.Nat.{ℕ, zero, suc, _+_, _-_, _*_, _≤_, _<_, min, max}
-use borrow.Author.Tests.{not-true, not-false}
-use lib.ListN.{length, getD, set}
+use mathlib.Core.Path.{_∙_}
+use Prim.Native.Nat.{_-_}
 use Rattle.letters.specs.Letters.{meets}
 use Rattle.letters.proofs.letter.meet.Statement.{statement}
 use Rattle.letters.proofs.letter.meet.Tie as tie
-use Rattle.letters.proofs.letter.meet.Reads as reads
-use Rattle.letters.proofs.letter.meet.Lts as lts
-use Rattle.letters.proofs.letter.Letter.meets.Reads as meets-reads
-use Rattle.letters.proofs.letter.Letter.of.Reads as of-reads
 
 of-requires : tie.Need-of-requires
 of-requires c κs = search needs

@@ -1,25 +1,13 @@
+-- `letters::members::greatest` meets its contract: the greatest so far, with that of the members left, is the greatest of all. Assumes nothing.
 use borrow.Author.Needs.{needs}
 use native.Mathlib.Omega.{arith}
-use mathlib.Core.Path.{_≡_, refl, sym, ap, _∙_}
-use mathlib.Core.Bool.{Bool, true, false}
-use mathlib.Core.Logic.{⊎-elim}
-use mathlib.Core.List.{List}
-use Prim.Native.Nat.{ℕ, zero, suc, _+_, _-_, _*_, _≤_, _<_, min, max}
-use borrow.Author.Tests.{not-true, not-false}
-use lib.ListN.{length, getD, set}
-use Prim.Native.Nat.{_^_}
-use lib.Bits.{bitAnd, bitOr}
-use lib.Count.{trailingZeros}
+use mathlib.Core.Path.{_≡_}
+use Prim.Native.Nat.{_-_, _<_, max, _^_}
 use Rattle.letters.specs.Members.{members, greatestOf}
 use Rattle.letters.proofs.LowestLaws.{low, rest-less}
 use Rattle.letters.proofs.MemberLaws.{greatest-step, greatest-end}
 use Rattle.letters.proofs.members.greatest.Statement.{statement}
 use Rattle.letters.proofs.members.greatest.Tie as tie
-use Rattle.letters.proofs.members.greatest.Reads as reads
-use Rattle.letters.proofs.members.greatest.Lts as lts
-use Rattle.letters.proofs.members.larger.Reads as larger-reads
-use Rattle.letters.proofs.members.lowest.Reads as lowest-reads
-use Rattle.letters.proofs.members.rest.Reads as rest-reads
 
 abbrev Inv-loop : tie.InvT-loop
 Inv-loop tab c left₀ best₀ left best = (left < 2 ^ 32) × (max best (greatestOf tab (members 32 left)) ≡ greatestOf tab (members 32 c))

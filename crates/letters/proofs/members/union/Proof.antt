@@ -1,13 +1,9 @@
+-- `letters::members::union` meets its contract: what is joined so far, with what the members left give, is the whole union. Assumes nothing.
 use borrow.Author.Needs.{needs}
 use native.Mathlib.Omega.{arith}
-use mathlib.Core.Path.{_≡_, refl, sym, ap, _∙_}
-use mathlib.Core.Bool.{Bool, true, false}
-use mathlib.Core.Logic.{⊎-elim}
-use mathlib.Core.List.{List}
-use Prim.Native.Nat.{ℕ, zero, suc, _+_, _-_, _*_, _≤_, _<_, min, max}
-use borrow.Author.Tests.{not-true, not-false}
-use lib.ListN.{length, getD, set}
-use Prim.Native.Nat.{_^_}
+use mathlib.Core.Path.{_≡_, sym, ap, _∙_}
+use Prim.Native.Nat.{_-_, _<_, _^_}
+use lib.ListN.{getD}
 use lib.Bits.{bitAnd, bitOr, or-zero-r}
 use lib.Count.{trailingZeros}
 use Rattle.letters.specs.Members.{members, unionOf}
@@ -16,10 +12,6 @@ use Rattle.letters.proofs.LowestLaws.{low, rest-less}
 use Rattle.letters.proofs.MemberLaws.{union-step, union-end}
 use Rattle.letters.proofs.members.union.Statement.{statement}
 use Rattle.letters.proofs.members.union.Tie as tie
-use Rattle.letters.proofs.members.union.Reads as reads
-use Rattle.letters.proofs.members.union.Lts as lts
-use Rattle.letters.proofs.members.lowest.Reads as lowest-reads
-use Rattle.letters.proofs.members.rest.Reads as rest-reads
 
 abbrev Inv-loop : tie.InvT-loop
 Inv-loop rows c unseen₀ all₀ unseen all = (unseen < 2 ^ 32) × (bitOr all (unionOf rows (members 32 unseen)) ≡ unionOf rows (members 32 c))

@@ -1,20 +1,14 @@
+-- `Letter::has` meets its contract: a shift brings the digit down; above the width there is none. Assumes nothing.
 use borrow.Author.Needs.{needs}
 use native.Mathlib.Omega.{arith}
-use mathlib.Core.Path.{_≡_, refl, sym, ap, _∙_}
-use mathlib.Core.Bool.{Bool, true, false}
-use mathlib.Core.Logic.{⊎-elim}
-use mathlib.Core.List.{List}
-use Prim.Native.Nat.{ℕ, zero, suc, _+_, _-_, _*_, _≤_, _<_, min, max}
-use borrow.Author.Tests.{not-true, not-false}
-use lib.ListN.{length, getD, set}
+use mathlib.Core.Path.{sym, ap}
+use Prim.Native.Nat.{ℕ, _-_}
 use lib.Dec.{eqb}
 use Rattle.letters.specs.Letters.{member}
 use Rattle.letters.proofs.DigitLaws.{digit-pow, digit-above}
 use Rattle.letters.proofs.LetterLaws.{no-member}
 use Rattle.letters.proofs.letter.Letter.has.Statement.{statement}
 use Rattle.letters.proofs.letter.Letter.has.Tie as tie
-use Rattle.letters.proofs.letter.Letter.has.Reads as reads
-use Rattle.letters.proofs.letter.Letter.has.Lts as lts
 
 shr-result : tie.Need-shr-result
 shr-result c = search needs
