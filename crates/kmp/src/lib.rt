@@ -1,0 +1,9 @@
+// The engine KMP.
+struct Turned {
+    hit: bool,
+    start: usize,
+    known: usize,
+    unsure: usize,
+    scan: u64,
+    shift: u64,
+}
