@@ -19,6 +19,7 @@ use Rattle.shifts.specs.Shift.{fit, selfFit, trials}
 use Rattle.shifts.proofs.SingleLaws.{plain-unsure, unsure-le, unsure-yes, unsure-no}
 use Rattle.shifts.proofs.SpanLaws.{span-met}
 use Rattle.shifts.proofs.ShiftLaws.{least-plain}
+use Rattle.pattern.specs.Tables.{FrontShifts}
 use Rattle.kmp.specs.Kmp.{At, UnsureAt, nowMet, shiftBy, shiftTests, moved, kmpTurn}
 
 module _ (T : List ℕ) where
@@ -73,3 +74,12 @@ module _ (P T : List ℕ) (i : ℕ) where
       (kmpTurn P T (record { start = i; known = r }))
   unfolding kmpTurn
   turn-is hit r h by kn sc sh e0 e1 e2 e3 e4 e5 = rw (e0, e3, e4, e5, e2, e1)
+
+-- where all is single the shift comes from P's own, cut to the first start past the last
+module _ (P T tab : List ℕ) (i h : ℕ) where
+  pub front-shift : FrontShifts P tab → i + length P ≤ length T → 0 < h → h ≤ length P → met P T i h ≡ true → plain P 0 h ≡ true → plain T i h ≡ true
+      → least (fit P T i 0 h) 1 (h - 1) ≡ min (getD tab h 0) (length T + 1 - (length P + i))
+  front-shift f l a b m p t =
+      let z : h - 0 ≡ h = omega arith in
+      let y : i + 0 ≡ i = omega arith in
+      rw (f h a b) (least-plain P T i 0 h zero-le (rw z (span-met P T i h ∙ m)) (rw z p) (rw (z, y) t) (h - 1) l)

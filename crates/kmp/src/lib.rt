@@ -1,4 +1,23 @@
-// The engine KMP.
+// The engine KMP, by its rule for any letters: at a start with r letters already known to meet it tests on from P[r], and then shifts by the least that the letters that now meet allow.
+// 1. Where those letters and the text under them are all single the shift comes from the pattern's own, cut to the first start past the last; else it is found by trying.
+// 2. Whether they are single is not found by reading them again: the place of the last unsure text letter that met is carried along.
+use hits::work::count;
+use letters::letter::lone;
+use letters::letter::meet;
+use shifts::Trials;
+use shifts::less;
+use shifts::smaller;
+use shifts::try_shifts;
+use shifts::wide;
+ghost use mathlib.Core.Path.{_≡_};
+ghost use mathlib.Core.Bool.{true};
+ghost use Prim.Native.Nat.{_+_, _-_, _*_, _≤_, _<_};
+ghost use lib.ListN.{length};
+ghost use Rattle.hits.specs.Hits.{met, hits, over};
+ghost use Rattle.hits.specs.Scans.{reach};
+ghost use Rattle.pattern.specs.Tables.{FrontShifts, Sure};
+ghost use Rattle.kmp.specs.Kmp.{At, UnsureAt, shiftBy, shiftTests, kmpTurn, turnOf};
+
 struct Turned {
     hit: bool,
     start: usize,
@@ -6,4 +25,99 @@ struct Turned {
     unsure: usize,
     scan: u64,
     shift: u64,
+}
+
+struct Scanned {
+    met: usize,
+    unsure: usize,
+}
+
+// Tests on from letter r, and keeps the index after the last unsure text letter that meets.
+fn scan_on(p: &[u32], t: &[u32], i: usize, r: usize, u: usize) -> Scanned
+    requires { ⌜ (r ≤ length (now p)) × (i + length (now p) ≤ length (now t)) × UnsureAt (now t) i r u ⌝ }
+    ensures { λ s. ⌜ (s .met ≡ reach (now (p .entry)) (now (t .entry)) i r (length (now (p .entry)) - r)) × UnsureAt (now (t .entry)) i (s .met) (s .unsure) ⌝ }
+{
+    let mut j = r;
+    let mut last = u;
+    while j < p.len() {
+        let c = t[i + j];
+        if !meet(p[j], c) {
+            return Scanned {
+                met: j,
+                unsure: last,
+            };
+        }
+        j += 1;
+        if !lone(c) {
+            last = i + j;
+        }
+    }
+    Scanned {
+        met: j,
+        unsure: last,
+    }
+}
+
+// The shift where the first h letters meet, with its tests.
+fn shift_by(
+    p: &[u32],
+    t: &[u32],
+    by: &[u32; 65],
+    sure: usize,
+    i: usize,
+    h: usize,
+    u: usize,
+) -> Trials
+    requires { ⌜ (0 < h) × (h ≤ length (now p)) × (length (now p) ≤ 64) × (i + length (now p) ≤ length (now t)) × FrontShifts (now p) (now by) × Sure (now p) sure × (met (now p) (now t) i h ≡ true) × UnsureAt (now t) i h u ⌝ }
+    ensures { λ r. ⌜ (r .by ≡ shiftBy (now (p .entry)) (now (t .entry)) i h) × (r .tests ≡ shiftTests (now (p .entry)) (now (t .entry)) i h) ⌝ }
+{
+    if sure < h {
+        return try_shifts(p, t, i, 0, h);
+    }
+    if i < u {
+        return try_shifts(p, t, i, 0, h);
+    }
+    let end = t.len() + 1 - (p.len() + i);
+    Trials {
+        by: smaller(wide(by[h]), end),
+        tests: 0,
+    }
+}
+
+// A turn at start i, with r letters known to meet.
+fn step(
+    p: &[u32],
+    t: &[u32],
+    by: &[u32; 65],
+    sure: usize,
+    i: usize,
+    r: usize,
+    u: usize,
+) -> Turned
+    requires { ⌜ (0 < length (now p)) × (length (now p) ≤ 64) × (i + length (now p) ≤ length (now t)) × FrontShifts (now p) (now by) × Sure (now p) sure × (r ≤ length (now p)) × (met (now p) (now t) i r ≡ true) × UnsureAt (now t) i r u ⌝ }
+    ensures { λ s. ⌜ (turnOf i s ≡ kmpTurn (now (p .entry)) (now (t .entry)) (record { start = i; known = r })) × UnsureAt (now (t .entry)) (s .start) (s .known) (s .unsure) ⌝ }
+{
+    let m = p.len();
+    let c = scan_on(p, t, i, r, u);
+    let h = c.met;
+    let v = c.unsure;
+    if h == 0 {
+        return Turned {
+            hit: false,
+            start: i + 1,
+            known: 0,
+            unsure: v,
+            scan: 1,
+            shift: 0,
+        };
+    }
+    let s = shift_by(p, t, by, sure, i, h, v);
+    Turned {
+        hit: h == m,
+        start: i + s.by,
+        known: less(h, s.by),
+        unsure: v,
+        scan: (h - r) as u64 + count(h < m),
+        shift: s.tests,
+    }
 }
