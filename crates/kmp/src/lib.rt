@@ -1,7 +1,9 @@
 // The engine KMP, by its rule for any letters: at a start with r letters already known to meet it tests on from P[r], and then shifts by the least that the letters that now meet allow.
 // 1. Where those letters and the text under them are all single the shift comes from the pattern's own, cut to the first start past the last; else it is found by trying.
 // 2. Whether they are single is not found by reading them again: the place of the last unsure text letter that met is carried along.
+use hits::work::Work;
 use hits::work::count;
+use hits::work::note;
 use letters::letter::lone;
 use letters::letter::meet;
 use shifts::Trials;
@@ -14,9 +16,10 @@ ghost use mathlib.Core.Bool.{true};
 ghost use Prim.Native.Nat.{_+_, _-_, _*_, _≤_, _<_};
 ghost use lib.ListN.{length};
 ghost use Rattle.hits.specs.Hits.{met, hits, over};
+ghost use Rattle.hits.specs.Counts.{workOf};
 ghost use Rattle.hits.specs.Scans.{reach};
 ghost use Rattle.pattern.specs.Tables.{FrontShifts, Sure};
-ghost use Rattle.kmp.specs.Kmp.{At, UnsureAt, shiftBy, shiftTests, kmpTurn, turnOf};
+ghost use Rattle.kmp.specs.Kmp.{At, UnsureAt, shiftBy, shiftTests, kmpTurn, kmpRun, turnOf};
 
 struct Turned {
     hit: bool,
@@ -119,5 +122,35 @@ fn step(
         unsure: v,
         scan: (h - r) as u64 + count(h < m),
         shift: s.tests,
+    }
+}
+
+// The run over all starts.
+fn run(p: &[u32], t: &[u32], by: &[u32; 65], sure: usize, list: &mut [u32]) -> Work
+    requires { ⌜ (0 < length (now p)) × (length (now p) ≤ 64) × (length (now t) ≤ 65536) × FrontShifts (now p) (now by) × Sure (now p) sure ⌝ }
+    ensures { λ r. ⌜ (r ≡ workOf (hits (now (p .entry)) (now (t .entry))) (kmpRun (now (p .entry)) (now (t .entry)))) × (now (list .exit) ≡ over (hits (now (p .entry)) (now (t .entry))) (now (list .entry))) ⌝ }
+{
+    let m = p.len();
+    let n = t.len();
+    let mut i = 0;
+    let mut r = 0;
+    let mut u = 0;
+    let mut total = 0;
+    let mut scan: u64 = 0;
+    let mut shift: u64 = 0;
+    while i + m <= n {
+        let s = step(p, t, by, sure, i, r, u);
+        total = note(list, total, i, s.hit);
+        scan += s.scan;
+        shift += s.shift;
+        i = s.start;
+        r = s.known;
+        u = s.unsure;
+    }
+    Work {
+        total,
+        scan,
+        shift,
+        steps: 0,
     }
 }
