@@ -77,9 +77,9 @@ module _ (P T : List ℕ) (i : ℕ) where
 
 -- where all is single the shift comes from P's own, cut to the first start past the last
 module _ (P T tab : List ℕ) (i h : ℕ) where
-  pub front-shift : FrontShifts P tab → i + length P ≤ length T → 0 < h → h ≤ length P → met P T i h ≡ true → plain P 0 h ≡ true → plain T i h ≡ true
+  pub front-shift : FrontShifts P tab → 0 < h → h ≤ length P → i + length P ≤ length T → met P T i h ≡ true → plain P 0 h ≡ true → plain T i h ≡ true
       → least (fit P T i 0 h) 1 (h - 1) ≡ min (getD tab h 0) (length T + 1 - (length P + i))
-  front-shift f l a b m p t =
+  front-shift f a b l m p t =
       let z : h - 0 ≡ h = omega arith in
       let y : i + 0 ≡ i = omega arith in
       rw (f h a b) (least-plain P T i 0 h zero-le (rw z (span-met P T i h ∙ m)) (rw z p) (rw (z, y) t) (h - 1) l)
