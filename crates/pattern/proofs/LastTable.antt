@@ -1,24 +1,22 @@
 -- R from its table: how the table grows letter by letter, and that R of a letter is the greatest over its members. Assumes nothing.
 use mathlib.Core.Path.{_≡_, refl, sym, ap, _∙_}
-use mathlib.Core.Bool.{Bool, true, false}
+use mathlib.Core.Bool.{true}
 use mathlib.Core.List.{List}
-use mathlib.Core.Logic.{⊎-elim}
-use Prim.Native.Nat.{ℕ, zero, suc, _+_, _-_, _^_, _≤_, _<_}
-use native.Mathlib.Nat.{le-antisymm, eq-zero-or-pos}
+use Prim.Native.Nat.{ℕ, zero, suc, _+_, _^_, _≤_, _<_}
+use native.Mathlib.Nat.{le-antisymm}
 use native.Mathlib.Numerals.{add-one}
 use native.Mathlib.Omega.{arith}
 use lib.ListN.{length, getD}
-use Rattle.letters.specs.Letters.{member, meets}
+use Rattle.letters.specs.Letters.{member}
 use Rattle.letters.specs.Members.{members, greatestOf}
 use Rattle.letters.proofs.Truth.{bool-cases}
-use Rattle.letters.proofs.DigitLaws.{digit-lt}
-use Rattle.letters.proofs.LetterLaws.{digit-member, meets-some, some-meets}
+use Rattle.letters.proofs.LetterLaws.{meets-some, some-meets}
 use Rattle.pattern.specs.Last.{lastIn, afterR}
 use Rattle.pattern.specs.Tables.{LastTable}
 use Rattle.pattern.specs.Visits.{Visited}
 use Rattle.pattern.proofs.LastLaws.{last-start, last-yes, last-no, last-le, last-has, last-ge}
 use Rattle.pattern.proofs.MostLaws.{most, most-upper, most-least, member-below, greatest-most}
-use Rattle.pattern.proofs.PowerLaws.{power-self, meets-lone}
+use Rattle.pattern.proofs.PowerLaws.{meets-lone}
 
 -- the table over P's first h letters
 abbrev pub LastsTo : ℕ → List ℕ → ℕ → List ℕ → Type 0

@@ -1,25 +1,20 @@
 -- The greatest value over the members of a letter: R from its table, and the digits of a union of rows. Assumes nothing.
-use mathlib.Core.Path.{_≡_, refl, sym, ap, _∙_}
-use mathlib.Core.Bool.{Bool, true, false}
+use mathlib.Core.Path.{_≡_, refl, ap, _∙_}
+use mathlib.Core.Bool.{true}
 use mathlib.Core.List.{List, [], _∷_}
 use mathlib.Core.Logic.{⊎-elim}
-use Prim.Native.Nat.{ℕ, zero, suc, _+_, _-_, _^_, _≤_, _<_, zero-le, max}
-use native.Mathlib.Nat.{eq-or-lt-of-le, le-antisymm, eq-zero-or-pos}
+use Prim.Native.Nat.{ℕ, zero, suc, _+_, _^_, _≤_, _<_, zero-le, max}
+use native.Mathlib.Nat.{eq-or-lt-of-le}
 use native.Mathlib.Omega.{arith}
 use borrow.Author.Tests.{leb-true, leb-false}
-use lib.Bits.{bitOr}
 use lib.Dec.{leb}
-use lib.ListN.{length, getD}
+use lib.ListN.{getD}
 use Rattle.letters.specs.Digits.{digit}
-use Rattle.letters.specs.Letters.{member, meets}
-use Rattle.letters.specs.Members.{keep, membersFrom, members, greatestOf, unionOf}
-use Rattle.hits.specs.Counts.{tally}
-use Rattle.letters.proofs.Truth.{bool-cases, both-ways}
-use Rattle.letters.proofs.DigitLaws.{digit-zero, digit-lt, digit-or, digit-above}
-use Rattle.letters.proofs.LetterLaws.{member-digit, digit-member, meets-some, some-meets}
-use Rattle.pattern.specs.Last.{lastIn, afterR}
-use Rattle.pattern.specs.Tables.{LastTable}
-use Rattle.pattern.proofs.LastLaws.{last-start, last-yes, last-no, last-le, last-ge, last-has}
+use Rattle.letters.specs.Letters.{member}
+use Rattle.letters.specs.Members.{membersFrom, members, greatestOf, unionOf}
+use Rattle.letters.proofs.Truth.{bool-cases}
+use Rattle.letters.proofs.DigitLaws.{digit-zero, digit-or, digit-above}
+use Rattle.letters.proofs.LetterLaws.{member-digit}
 
 -- the greatest of f over some places, 0 if there is none
 unfoldable pub most : (ℕ → ℕ) → List ℕ → ℕ

@@ -1,9 +1,8 @@
 -- A loop over the members of a letter, from the lowest set bit upward, that changes a table's entry at each. Assumes nothing.
 use mathlib.Core.Path.{_≡_, refl, sym, ap, _∙_}
-use mathlib.Core.Bool.{Bool, true, false, cond}
+use mathlib.Core.Bool.{true, false}
 use mathlib.Core.List.{List}
-use mathlib.Core.Logic.{⊎-elim}
-use Prim.Native.Nat.{ℕ, zero, suc, _+_, _-_, _^_, _≤_, _<_}
+use Prim.Native.Nat.{ℕ, _-_, _^_, _<_}
 use native.Mathlib.Omega.{arith}
 use borrow.Author.Tests.{eqb-true, eqb-false}
 use lib.Bits.{bitAnd}
@@ -11,7 +10,6 @@ use lib.Count.{trailingZeros}
 use lib.Dec.{eqb}
 use lib.ListN.{length, getD, set, length-set}
 use lib.Seq.{getD-set-same, getD-set-other}
-use Rattle.letters.specs.Digits.{digit}
 use Rattle.letters.specs.Letters.{member}
 use Rattle.letters.proofs.Truth.{bool-cases, both-ways}
 use Rattle.letters.proofs.DigitLaws.{digit-zero}

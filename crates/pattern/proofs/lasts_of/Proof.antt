@@ -1,18 +1,12 @@
+-- `lasts_of` meets its contract: the table is right for the letters passed. Assumes nothing.
 use borrow.Author.Needs.{needs}
 use native.Mathlib.Omega.{arith}
-use mathlib.Core.Path.{_≡_, refl, sym, ap, _∙_}
-use mathlib.Core.Bool.{Bool, true, false}
-use mathlib.Core.Logic.{⊎-elim}
-use mathlib.Core.List.{List}
-use Prim.Native.Nat.{ℕ, zero, suc, _+_, _-_, _*_, _≤_, _<_, min, max}
-use borrow.Author.Tests.{not-true, not-false}
+use mathlib.Core.Path.{_≡_, refl}
+use Prim.Native.Nat.{_-_, _≤_}
 use lib.ListN.{length, replicate, getD-replicate}
 use Rattle.pattern.proofs.LastTable.{LastsTo, lasts-start, lasts-on, lasts-end}
 use Rattle.pattern.proofs.lasts_of.Statement.{statement}
 use Rattle.pattern.proofs.lasts_of.Tie as tie
-use Rattle.pattern.proofs.lasts_of.Reads as reads
-use Rattle.pattern.proofs.lasts_of.Lts as lts
-use Rattle.pattern.proofs.store.Reads as store-reads
 
 abbrev Inv-loop : tie.InvT-loop
 Inv-loop p tab₀ j₀ tab j = (j ≤ length p) × (length tab ≡ 32) × LastsTo 32 p j tab

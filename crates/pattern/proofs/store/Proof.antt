@@ -1,20 +1,10 @@
+-- `store` meets its contract: the loop keeps `Visiting`. Assumes nothing.
 use borrow.Author.Needs.{needs}
 use native.Mathlib.Omega.{arith}
-use mathlib.Core.Path.{_≡_, refl, sym, ap, _∙_}
-use mathlib.Core.Bool.{Bool, true, false}
-use mathlib.Core.Logic.{⊎-elim}
-use mathlib.Core.List.{List}
-use Prim.Native.Nat.{ℕ, zero, suc, _+_, _-_, _*_, _≤_, _<_, min, max}
-use borrow.Author.Tests.{not-true, not-false}
-use lib.ListN.{length, getD, set}
 use Rattle.letters.proofs.LowestLaws.{low, rest-less}
 use Rattle.pattern.proofs.VisitLaws.{Visiting, visit-start, visit-on, visit-end}
 use Rattle.pattern.proofs.store.Statement.{statement}
 use Rattle.pattern.proofs.store.Tie as tie
-use Rattle.pattern.proofs.store.Reads as reads
-use Rattle.pattern.proofs.store.Lts as lts
-use Rattle.letters.proofs.members.lowest.Reads as lowest-reads
-use Rattle.letters.proofs.members.rest.Reads as rest-reads
 
 abbrev Inv-loop : tie.InvT-loop
 Inv-loop tab₀ c v left₀ tab left = Visiting 32 (λ _. v) c tab₀ left tab

@@ -1,13 +1,11 @@
 -- `sure_of` meets its contract: the letters passed are all single. Assumes nothing.
 use borrow.Author.Needs.{needs}
 use native.Mathlib.Omega.{arith}
-use mathlib.Core.Path.{_≡_, refl, sym, ap, _∙_}
-use mathlib.Core.Bool.{Bool, true, false}
-use mathlib.Core.Logic.{⊎-elim}
-use mathlib.Core.List.{List}
-use Prim.Native.Nat.{ℕ, zero, suc, _+_, _-_, _*_, _≤_, _<_, min, max}
+use mathlib.Core.Path.{_≡_, sym, _∙_}
+use mathlib.Core.Bool.{true}
+use Prim.Native.Nat.{_+_, _-_, _≤_}
 use borrow.Author.Tests.{not-true, not-false}
-use lib.ListN.{length, getD, set}
+use lib.ListN.{length}
 use Rattle.shifts.specs.Singles.{plain}
 use Rattle.shifts.proofs.SingleLaws.{plain-none, plain-more, plain-upto}
 use Rattle.pattern.proofs.sure_of.Statement.{statement}

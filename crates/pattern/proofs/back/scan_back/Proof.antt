@@ -1,13 +1,9 @@
 -- `back::scan_back` meets its contract: what the scan has passed meets, and `sure` says whether the text letters there are single. Assumes nothing.
 use borrow.Author.Needs.{needs}
 use native.Mathlib.Omega.{arith}
-use mathlib.Core.Path.{_≡_, refl, sym, ap, _∙_}
-use mathlib.Core.Bool.{Bool, true, false}
-use mathlib.Core.Logic.{⊎-elim}
-use mathlib.Core.List.{List}
-use Prim.Native.Nat.{ℕ, zero, suc, _+_, _-_, _*_, _≤_, _<_, min, max}
+use mathlib.Core.Path.{_≡_, sym, ap, _∙_}
+use Prim.Native.Nat.{_+_, _-_, _≤_}
 use borrow.Author.Tests.{not-true, not-false}
-use lib.ListN.{length, getD, set}
 use Rattle.shifts.specs.Singles.{plain}
 use Rattle.shifts.specs.Back.{back}
 use Rattle.shifts.proofs.SingleLaws.{plain-none}

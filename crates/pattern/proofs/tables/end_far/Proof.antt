@@ -1,14 +1,9 @@
 -- `tables::end_far` meets its contract: the scan from the right says how many letters meet. Assumes nothing.
 use borrow.Author.Needs.{needs}
 use native.Mathlib.Omega.{arith}
-use mathlib.Core.Path.{_≡_, refl, sym, ap, _∙_}
-use mathlib.Core.Bool.{Bool, true, false}
-use mathlib.Core.Logic.{⊎-elim}
-use mathlib.Core.List.{List}
-use Prim.Native.Nat.{ℕ, zero, suc, _+_, _-_, _*_, _≤_, _<_, min, max}
-use borrow.Author.Tests.{not-true, not-false}
-use lib.ListN.{length, getD, set}
-use Rattle.pattern.specs.Far.{endFar}
+use mathlib.Core.Path.{sym, _∙_}
+use Prim.Native.Nat.{_-_}
+use lib.ListN.{length}
 use Rattle.shifts.proofs.BackLaws.{back-le}
 use Rattle.pattern.proofs.ShiftTable.{far-all, far-some}
 use Rattle.pattern.proofs.tables.end_far.Statement.{statement}

@@ -1,14 +1,9 @@
 -- `tables::front_fars` meets its contract: the entries below s are filled. Assumes nothing.
 use borrow.Author.Needs.{needs}
 use native.Mathlib.Omega.{arith}
-use mathlib.Core.Path.{_≡_, refl, sym, ap, _∙_}
-use mathlib.Core.Bool.{Bool, true, false}
-use mathlib.Core.Logic.{⊎-elim}
-use mathlib.Core.List.{List}
-use Prim.Native.Nat.{ℕ, zero, suc, _+_, _-_, _*_, _≤_, _<_, min, max}
-use borrow.Author.Tests.{not-true, not-false}
-use lib.ListN.{length, getD, set}
-use Rattle.hits.specs.Scans.{reach}
+use mathlib.Core.Path.{_≡_, refl}
+use Prim.Native.Nat.{_+_, _-_, _≤_, _<_}
+use lib.ListN.{length}
 use Rattle.hits.proofs.ScanLaws.{reach-le}
 use Rattle.pattern.proofs.TableLaws.{Filled, filled-on}
 use Rattle.pattern.specs.Far.{frontFar}
@@ -59,7 +54,7 @@ loop-again c =
     let p = l .before .before .args .p .now in
     let s = l .loop .s in
     let z : length p - s - 0 ≡ length p - s = omega arith in
-    (refl, omega arith, omega arith, filled-on 65 1 (frontFar p) (l .loop .far) s _ (l .loop .inv .3) (omega arith) (ap (λ (x : ℕ). s + x) (c .reach-to .ensures ∙ ap (reach p p s 0) z)))
+    (refl, omega arith, omega arith, filled-on 65 1 (frontFar p) (l .loop .far) s _ (l .loop .inv .3) (omega arith) (rw (c .reach-to .ensures, z)))
 
 returns : tie.Need-returns Inv-loop μ-loop
 returns c = λ s a b. c .before .loop .inv .3 .right s a (omega arith)

@@ -1,15 +1,9 @@
 -- `tables::least_shifts` meets its contract: the entries below h are right, and no s passed is enough for h. Assumes nothing.
 use borrow.Author.Needs.{needs}
 use native.Mathlib.Omega.{arith}
-use mathlib.Core.Path.{_≡_, refl, sym, ap, _∙_}
-use mathlib.Core.Bool.{Bool, true, false}
-use mathlib.Core.Logic.{⊎-elim}
-use mathlib.Core.List.{List}
-use Prim.Native.Nat.{ℕ, zero, suc, _+_, _-_, _*_, _≤_, _<_, min, max}
-use borrow.Author.Tests.{not-true, not-false}
-use lib.ListN.{length, getD, set}
+use mathlib.Core.Path.{refl}
+use Prim.Native.Nat.{_+_, _-_, _≤_}
 use Rattle.pattern.proofs.TableLaws.{Built, built-on, enough}
-use Rattle.shifts.specs.Least.{least}
 use Rattle.shifts.proofs.LeastLaws.{least-le}
 use Rattle.pattern.proofs.tables.least_shifts.Statement.{statement}
 use Rattle.pattern.proofs.tables.least_shifts.Tie as tie

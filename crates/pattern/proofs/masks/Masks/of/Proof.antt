@@ -1,18 +1,12 @@
+-- `Masks::of` meets its contract: the rows are right for the letters passed. Assumes nothing.
 use borrow.Author.Needs.{needs}
 use native.Mathlib.Omega.{arith}
-use mathlib.Core.Path.{_≡_, refl, sym, ap, _∙_}
-use mathlib.Core.Bool.{Bool, true, false}
-use mathlib.Core.Logic.{⊎-elim}
-use mathlib.Core.List.{List}
-use Prim.Native.Nat.{ℕ, zero, suc, _+_, _-_, _*_, _≤_, _<_, min, max}
-use borrow.Author.Tests.{not-true, not-false}
+use mathlib.Core.Path.{_≡_, refl}
+use Prim.Native.Nat.{_-_, _≤_}
 use lib.ListN.{length, getD-replicate}
 use Rattle.pattern.proofs.MaskTable.{MasksTo, masks-start, masks-on, masks-end, place-word}
 use Rattle.pattern.proofs.masks.Masks.of.Statement.{statement}
 use Rattle.pattern.proofs.masks.Masks.of.Tie as tie
-use Rattle.pattern.proofs.masks.Masks.of.Reads as reads
-use Rattle.pattern.proofs.masks.Masks.of.Lts as lts
-use Rattle.pattern.proofs.masks.mark.Reads as mark-reads
 
 abbrev Inv-loop : tie.InvT-loop
 Inv-loop p rows₀ j₀ rows j = (j ≤ length p) × (length rows ≡ 32) × MasksTo 32 p j rows

@@ -1,19 +1,8 @@
+-- `Shifts::from_front` meets its contract: the least s that is far enough is the least shift. Assumes nothing.
 use borrow.Author.Needs.{needs}
-use native.Mathlib.Omega.{arith}
-use mathlib.Core.Path.{_≡_, refl, sym, ap, _∙_}
-use mathlib.Core.Bool.{Bool, true, false}
-use mathlib.Core.Logic.{⊎-elim}
-use mathlib.Core.List.{List}
-use Prim.Native.Nat.{ℕ, zero, suc, _+_, _-_, _*_, _≤_, _<_, min, max}
-use borrow.Author.Tests.{not-true, not-false}
-use lib.ListN.{length, getD, set}
 use Rattle.pattern.proofs.ShiftTable.{front-shifts}
 use Rattle.pattern.proofs.tables.Shifts.from_front.Statement.{statement}
 use Rattle.pattern.proofs.tables.Shifts.from_front.Tie as tie
-use Rattle.pattern.proofs.tables.Shifts.from_front.Reads as reads
-use Rattle.pattern.proofs.tables.Shifts.from_front.Lts as lts
-use Rattle.pattern.proofs.tables.front_fars.Reads as front-fars-reads
-use Rattle.pattern.proofs.tables.least_shifts.Reads as least-shifts-reads
 
 front-fars-requires : tie.Need-front-fars-requires
 front-fars-requires c κs = search needs
