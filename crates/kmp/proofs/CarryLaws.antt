@@ -2,7 +2,7 @@
 use mathlib.Core.Path.{_≡_, refl, sym, ap, _∙_}
 use mathlib.Core.Bool.{Bool, true, false, and-false}
 use mathlib.Core.List.{List, []}
-use Prim.Native.Nat.{ℕ, zero, suc, _+_, _-_, _≤_, _<_, zero-le, min, max}
+use Prim.Native.Nat.{ℕ, zero, suc, _+_, _-_, _≤_, _<_, max}
 use native.Mathlib.Omega.{arith}
 use borrow.Author.Tests.{leb-true, leb-false, le-leb, lt-leb}
 use lib.Dec.{leb, eqb}
@@ -10,17 +10,12 @@ use lib.ListN.{length, getD}
 use Rattle.letters.specs.Letters.{single}
 use Rattle.letters.specs.Members.{keep}
 use Rattle.letters.proofs.Truth.{bool-cases}
-use Rattle.hits.specs.Hits.{met}
 use Rattle.hits.specs.Scans.{tests}
 use Rattle.hits.specs.Turns.{Turn}
 use Rattle.shifts.specs.Singles.{plain, unsureBelow}
-use Rattle.shifts.specs.Least.{least}
-use Rattle.shifts.specs.Shift.{fit, selfFit, trials}
+use Rattle.shifts.specs.Shift.{trials}
 use Rattle.shifts.proofs.SingleLaws.{plain-unsure, unsure-le, unsure-yes, unsure-no}
-use Rattle.shifts.proofs.SpanLaws.{span-met}
-use Rattle.shifts.proofs.ShiftLaws.{least-plain}
-use Rattle.pattern.specs.Tables.{FrontShifts}
-use Rattle.kmp.specs.Kmp.{At, UnsureAt, nowMet, shiftBy, shiftTests, moved, kmpTurn}
+use Rattle.kmp.specs.Kmp.{At, UnsureAt, nowMet, shiftBy, shiftTests, kmpTurn}
 
 module _ (T : List ℕ) where
   pub unsure-begin : UnsureAt T 0 0 0
@@ -74,12 +69,3 @@ module _ (P T : List ℕ) (i : ℕ) where
       (kmpTurn P T (record { start = i; known = r }))
   unfolding kmpTurn
   turn-is hit r h by kn sc sh e0 e1 e2 e3 e4 e5 = rw (e0, e3, e4, e5, e2, e1)
-
--- where all is single the shift comes from P's own, cut to the first start past the last
-module _ (P T tab : List ℕ) (i h : ℕ) where
-  pub front-shift : FrontShifts P tab → 0 < h → h ≤ length P → i + length P ≤ length T → met P T i h ≡ true → plain P 0 h ≡ true → plain T i h ≡ true
-      → least (fit P T i 0 h) 1 (h - 1) ≡ min (getD tab h 0) (length T + 1 - (length P + i))
-  front-shift f a b l m p t =
-      let z : h - 0 ≡ h = omega arith in
-      let y : i + 0 ≡ i = omega arith in
-      rw (f h a b) (least-plain P T i 0 h zero-le (rw z (span-met P T i h ∙ m)) (rw z p) (rw (z, y) t) (h - 1) l)

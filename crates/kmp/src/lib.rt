@@ -4,8 +4,15 @@
 use hits::work::Work;
 use hits::work::count;
 use hits::work::note;
+use inputs::checks::Text;
+use inputs::checks::checked;
+use inputs::refusal::Answer;
+use inputs::refusal::Check;
+use letters::letter::Letter;
 use letters::letter::lone;
 use letters::letter::meet;
+use pattern::Pattern;
+use pattern::tables::Shifts;
 use shifts::Trials;
 use shifts::less;
 use shifts::smaller;
@@ -18,6 +25,7 @@ ghost use lib.ListN.{length};
 ghost use Rattle.hits.specs.Hits.{met, hits, over};
 ghost use Rattle.hits.specs.Counts.{workOf};
 ghost use Rattle.hits.specs.Scans.{reach};
+ghost use Rattle.inputs.specs.Answers.{Searched, scanOf, shiftOf};
 ghost use Rattle.pattern.specs.Tables.{FrontShifts, Sure};
 ghost use Rattle.kmp.specs.Kmp.{At, UnsureAt, shiftBy, shiftTests, kmpTurn, kmpRun, turnOf};
 
@@ -126,12 +134,16 @@ fn step(
 }
 
 // The run over all starts.
-fn run(p: &[u32], t: &[u32], by: &[u32; 65], sure: usize, list: &mut [u32]) -> Work
-    requires { ⌜ (0 < length (now p)) × (length (now p) ≤ 64) × (length (now t) ≤ 65536) × FrontShifts (now p) (now by) × Sure (now p) sure ⌝ }
+fn run(p: &[u32], t: &[u32], list: &mut [u32]) -> Work
+    requires { ⌜ (0 < length (now p)) × (length (now p) ≤ 64) × (length (now t) ≤ 65536) ⌝ }
     ensures { λ r. ⌜ (r ≡ workOf (hits (now (p .entry)) (now (t .entry))) (kmpRun (now (p .entry)) (now (t .entry)))) × (now (list .exit) ≡ over (hits (now (p .entry)) (now (t .entry))) (now (list .entry))) ⌝ }
 {
     let m = p.len();
     let n = t.len();
+    let pattern = Pattern::new(p);
+    let sure = pattern.sure;
+    let shifts = Shifts::from_front(p);
+    let by = shifts.by;
     let mut i = 0;
     let mut r = 0;
     let mut u = 0;
@@ -139,7 +151,7 @@ fn run(p: &[u32], t: &[u32], by: &[u32; 65], sure: usize, list: &mut [u32]) -> W
     let mut scan: u64 = 0;
     let mut shift: u64 = 0;
     while i + m <= n {
-        let s = step(p, t, by, sure, i, r, u);
+        let s = step(p, t, &by, sure, i, r, u);
         total = note(list, total, i, s.hit);
         scan += s.scan;
         shift += s.shift;
@@ -152,5 +164,17 @@ fn run(p: &[u32], t: &[u32], by: &[u32; 65], sure: usize, list: &mut [u32]) -> W
         scan,
         shift,
         steps: 0,
+    }
+}
+
+// Every start at which the pattern meets the text, by KMP.
+pub fn search(k: u32, p: &[u32], t: &[u32], list: &mut [u32]) -> Answer
+    ensures promise { λ r. do ⌜ Searched kmpRun (← ⟦Letter::MAX_K⟧ .entry) (← ⟦Pattern::MAX_M⟧ .entry) (← ⟦Text::MAX_N⟧ .entry) k (now (p .entry)) (now (t .entry)) (now (list .entry)) r (now (list .exit)) ⌝ }
+    ensures scans { λ r. ⌜ (length (now (p .entry)) ≤ length (now (t .entry)) → scanOf r ≤ 2 * length (now (t .entry)) - length (now (p .entry))) ⌝ }
+    ensures trials { λ r. ⌜ (length (now (p .entry)) ≤ length (now (t .entry)) → shiftOf r ≤ (length (now (t .entry)) - length (now (p .entry))) * (length (now (p .entry)) - 1)) ⌝ }
+{
+    match checked(k, p, t) {
+        Check::Refused(r) => Answer::Refused(r),
+        Check::Passed => Answer::Found(run(p, t, list)),
     }
 }

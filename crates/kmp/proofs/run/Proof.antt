@@ -23,11 +23,17 @@ abbrev counted : ℕ → ℕ → ℕ → Work
 counted total scan shift = record { total = total; scan = scan; shift = shift; steps = 0 }
 
 abbrev Inv-loop : tie.InvT-loop
-Inv-loop p t by sure list₀ m n i₀ r₀ u₀ total₀ scan₀ shift₀ list i r u total scan shift =
+Inv-loop p t list₀ m n sure by i₀ r₀ u₀ total₀ scan₀ shift₀ list i r u total scan shift =
     (m ≡ length p) × (n ≡ length t) × (i ≤ n + 1) × UnsureAt t i r u × SoFar (sound p t) list₀ (at i r) list (counted total scan shift)
 
 abbrev μ-loop : tie.MeasureT-loop
-μ-loop p t by sure list₀ m n i₀ r₀ u₀ total₀ scan₀ shift₀ list i r u total scan shift = n + 1 - i
+μ-loop p t list₀ m n sure by i₀ r₀ u₀ total₀ scan₀ shift₀ list i r u total scan shift = n + 1 - i
+
+new-requires : tie.Need-new-requires Inv-loop μ-loop
+new-requires c κs = search needs
+
+from-front-requires : tie.Need-from-front-requires Inv-loop μ-loop
+from-front-requires c κs = search needs
 
 loop-holds : tie.Need-loop-holds Inv-loop μ-loop
 loop-holds c = (refl, refl, omega arith, unsure-begin _, start (sound _ _) _)
@@ -38,16 +44,16 @@ add-loop c = omega arith
 step-requires : tie.Need-step-requires Inv-loop μ-loop
 unfolding sound
 step-requires c κs =
-    let l = c .before in
-    let o = l .before .before .before .before in
+    let l = c .before .before in
+    let o = l .before .before .before .before .before .before .before in
     let i : l .loop .i + length (o .args .p .now) ≤ length (o .args .t .now) = omega arith in
     let k = l .loop .inv .4 .fine in
-    (o .pre .0, o .pre .1, i, o .pre .3, o .pre .4, k .short, k .known-met i, l .loop .inv .3)
+    (o .pre .0, o .pre .1, i, l .before .before .from-front .ensures, l .before .before .before .new .ensures .0, k .short, k .known-met i, l .loop .inv .3)
 
 note-requires : tie.Need-note-requires Inv-loop μ-loop
 note-requires c κs =
-    let l = c .before .before .before in
-    let a = l .before .before .before .before .args in
+    let l = c .before .before .before .before in
+    let a = l .before .before .before .before .before .before .before .args in
     omega (arith, total-le (sound (a .p .now) (a .t .now)) (a .list .now) _ _ _ (l .loop .inv .4))
 
 -- what a pass of the loop knows of its step
@@ -59,13 +65,13 @@ record Facts (P T : List ℕ) (s : At) (scan shift : ℕ) (next more tried : ℕ
   shift-fits : shift + tried ≤ kmpRun P T .shift
 
 facts : (k : tie.After-step Inv-loop μ-loop) →
-    let l = k .before .before in
-    let a = l .before .before .before .before .args in
+    let l = k .before .before .before in
+    let a = l .before .before .before .before .before .before .before .args in
     Facts (a .p .now) (a .t .now) (at (l .loop .i) (l .loop .r)) (l .loop .scan) (l .loop .shift) (k .step .result .start) (k .step .result .scan) (k .step .result .shift)
 unfolding sound kmpRun
 facts k =
-    let l = k .before .before in
-    let a = l .before .before .before .before .args in
+    let l = k .before .before .before in
+    let a = l .before .before .before .before .before .before .before .args in
     let P = a .p .now in
     let T = a .t .now in
     let s = at (l .loop .i) (l .loop .r) in
@@ -85,26 +91,26 @@ facts k =
 add-scan : tie.Need-add-scan Inv-loop μ-loop
 add-scan c =
     let k = c .before .before .before .before .before in
-    let a = k .before .before .before .before .before .before .args in
-    omega (arith, facts k .scan-fits, scan-small (a .p .now) (a .t .now) 64 65536 (omega arith) (omega arith))
+    let o = k .before .before .before .before .before .before .before .before .before .before in
+    omega (arith, facts k .scan-fits, scan-small (o .args .p .now) (o .args .t .now) 64 65536 (o .pre .1) (o .pre .2))
 
 add-shift : tie.Need-add-shift Inv-loop μ-loop
 add-shift c =
     let k = c .before .before .before .before .before .before in
-    let a = k .before .before .before .before .before .before .args in
-    omega (arith, facts k .shift-fits, shift-small (a .p .now) (a .t .now) 64 65536 (omega arith) (omega arith))
+    let o = k .before .before .before .before .before .before .before .before .before .before in
+    omega (arith, facts k .shift-fits, shift-small (o .args .p .now) (o .args .t .now) 64 65536 (o .pre .1) (o .pre .2))
 
 loop-less : tie.Need-loop-less Inv-loop μ-loop
 loop-less c =
     let k = c .before .before .before .before .before .before in
-    omega (arith, facts k .on, k .before .before .loop .inv .2)
+    omega (arith, facts k .on, k .before .before .before .loop .inv .2)
 
 loop-again : tie.Need-loop-again Inv-loop μ-loop
 loop-again c =
     let n = c .before .before .before .before in
     let k = n .before .before in
-    let l = k .before .before in
-    let a = l .before .before .before .before .args in
+    let l = k .before .before .before in
+    let a = l .before .before .before .before .before .before .before .args in
     let w = facts k in
     let e = k .step .ensures .0 in (
       refl,
@@ -124,14 +130,14 @@ loop-again c =
 same-length : tie.Need-same-length Inv-loop μ-loop
 same-length c =
     let l = c .before in
-    let a = l .before .before .before .before .args in
+    let a = l .before .before .before .before .before .before .before .args in
     kept (sound (a .p .now) (a .t .now)) (a .list .now) _ _ _ (l .loop .inv .4)
 
 returns : tie.Need-returns Inv-loop μ-loop
 unfolding kmpRun
 returns c =
     let l = c .before in
-    let a = l .before .before .before .before .args in
+    let a = l .before .before .before .before .before .before .before .args in
     let P = a .p .now in
     let T = a .t .now in
     let z = lt-leb (l .loop .i + length P) (length T) (omega arith) in (
@@ -145,6 +151,8 @@ run-spec =
     (tie.spec
     Inv-loop
     μ-loop
+    new-requires
+    from-front-requires
     loop-holds
     add-loop
     step-requires

@@ -5,8 +5,9 @@ use native.Mathlib.Omega.{arith}
 use borrow.Author.Needs.{needs}
 use borrow.Author.Tests.{le-leb, lt-leb}
 use lib.ListN.{length}
+use Rattle.pattern.proofs.ShiftTable.{front-shift}
 use Rattle.kmp.proofs.KmpLaws.{shift-is}
-use Rattle.kmp.proofs.CarryLaws.{plain-text, tests-plain, tests-unsure-pattern, tests-unsure-text, front-shift}
+use Rattle.kmp.proofs.CarryLaws.{plain-text, tests-plain, tests-unsure-pattern, tests-unsure-text}
 use Rattle.kmp.proofs.shift_by.Statement.{statement}
 use Rattle.kmp.proofs.shift_by.Tie as tie
 
