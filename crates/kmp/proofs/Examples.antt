@@ -1,11 +1,10 @@
 -- The worked sheet, and the pattern that loses a start where borders are used over an unsure text: KMP's hits and counts. Assumes nothing.
 use mathlib.Core.Path.{_≡_, refl}
-use mathlib.Core.List.{List, [], _∷_}
-use Prim.Native.Nat.{ℕ}
+use mathlib.Core.List.{[], _∷_}
 use lib.Count.{ones, onesIn}
 use Rattle.letters.specs.Letters.{shared, meets, single}
 use Rattle.hits.specs.Scans.{reach, tests}
-use Rattle.hits.specs.Turns.{Run, run}
+use Rattle.hits.specs.Turns.{run}
 use Rattle.shifts.specs.Singles.{plain}
 use Rattle.shifts.specs.Spans.{span}
 use Rattle.shifts.specs.Least.{least}

@@ -1,6 +1,6 @@
 -- KMP is sound, so its run finds the hits; and what its run costs. Assumes nothing.
 use mathlib.Core.Path.{_≡_, refl, sym, ap, _∙_}
-use mathlib.Core.Bool.{Bool, true, false, _||_, _&&_, and-false}
+use mathlib.Core.Bool.{Bool, true, false, _&&_}
 use mathlib.Core.Logic.{⊎-elim}
 use mathlib.Core.List.{List, []}
 use Prim.Native.Nat.{ℕ, zero, suc, _+_, _-_, _*_, _≤_, _<_, zero-le}
@@ -13,11 +13,11 @@ use Rattle.letters.specs.Members.{keep}
 use Rattle.letters.proofs.Truth.{bool-cases}
 use Rattle.hits.specs.Hits.{met, hitAt, hits}
 use Rattle.hits.specs.Turns.{Turn, Run, idle}
-use Rattle.hits.specs.Scans.{reach, tests}
+use Rattle.hits.specs.Scans.{reach}
 use Rattle.hits.specs.Counts.{tally}
 use Rattle.hits.proofs.HitLaws.{met-none, one-from}
-use Rattle.hits.proofs.ScanLaws.{reach-ge, reach-le, reach-met, reach-hit, tests-le, tests-reach}
-use Rattle.hits.proofs.RunLaws.{Sound, Fair, run-stop, finds-all, bounded}
+use Rattle.hits.proofs.ScanLaws.{reach-ge, reach-le, reach-hit, tests-le, tests-reach}
+use Rattle.hits.proofs.RunLaws.{Sound, run-stop, finds-all, bounded}
 use Rattle.shifts.specs.Singles.{plain}
 use Rattle.shifts.specs.Least.{least}
 use Rattle.shifts.specs.Shift.{fit, trials}
@@ -166,7 +166,7 @@ module _ (P T : List ℕ) where
   unfolding kmpRun sound
   kmp-scan =
       let h : kmpRun P T .scan ≤ 2 * length T - length P - (2 * 0 + 0) =
-          bounded sound (λ (r : Run). r .scan) (λ (t : Turn At). t .scan) refl (λ t r. refl) φ (λ s o y. pays s o (leb-true _ _ y))
+      bounded sound (λ (r : Run). r .scan) (λ (t : Turn At). t .scan) refl (λ t r. refl) φ (λ s o y. pays s o (leb-true _ _ y))
       in
       omega arith
 
@@ -197,8 +197,8 @@ module _ (P T : List ℕ) where
       some pos =
           let z : s .start + 0 ≡ s .start = omega arith in
           let e =
-              rw (← shift-is P T (s .start) (nowMet P T s), z) at
-              (trials-pay P T (s .start) 0 (nowMet P T s) pos zero-le (top s o l) 0 (nowMet P T s - 1))
+          rw (← shift-is P T (s .start) (nowMet P T s), z) at
+          (trials-pay P T (s .start) 0 (nowMet P T s) pos zero-le (top s o l) 0 (nowMet P T s - 1))
           in
           omega (arith, e, tests-cut s)
 
@@ -207,7 +207,7 @@ module _ (P T : List ℕ) where
   unfolding kmpRun sound
   kmp-shift =
       let h : kmpRun P T .shift ≤ (length P - 1) * (length T - length P - 0) =
-          bounded sound (λ (r : Run). r .shift) (λ (t : Turn At). t .shift) refl (λ t r. refl) ψ (λ s o y. pays-shift s o (leb-true _ _ y))
+      bounded sound (λ (r : Run). r .shift) (λ (t : Turn At). t .shift) refl (λ t r. refl) ψ (λ s o y. pays-shift s o (leb-true _ _ y))
       in
       let z : length T - length P - 0 ≡ length T - length P = omega arith in
       rw (mul-comm (length T - length P) (length P - 1)) (rw z at h)

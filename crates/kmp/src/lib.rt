@@ -27,7 +27,7 @@ ghost use Rattle.hits.specs.Counts.{workOf};
 ghost use Rattle.hits.specs.Scans.{reach};
 ghost use Rattle.inputs.specs.Answers.{Searched, scanOf, shiftOf};
 ghost use Rattle.pattern.specs.Tables.{FrontShifts, Sure};
-ghost use Rattle.kmp.specs.Kmp.{At, UnsureAt, shiftBy, shiftTests, kmpTurn, kmpRun, turnOf};
+ghost use Rattle.kmp.specs.Kmp.{UnsureAt, shiftBy, shiftTests, kmpTurn, kmpRun, turnOf};
 
 struct Turned {
     hit: bool,
@@ -96,15 +96,7 @@ fn shift_by(
 }
 
 // A turn at start i, with r letters known to meet.
-fn step(
-    p: &[u32],
-    t: &[u32],
-    by: &[u32; 65],
-    sure: usize,
-    i: usize,
-    r: usize,
-    u: usize,
-) -> Turned
+fn step(p: &[u32], t: &[u32], by: &[u32; 65], sure: usize, i: usize, r: usize, u: usize) -> Turned
     requires { ⌜ (0 < length (now p)) × (length (now p) ≤ 64) × (i + length (now p) ≤ length (now t)) × FrontShifts (now p) (now by) × Sure (now p) sure × (r ≤ length (now p)) × (met (now p) (now t) i r ≡ true) × UnsureAt (now t) i r u ⌝ }
     ensures { λ s. ⌜ (turnOf i s ≡ kmpTurn (now (p .entry)) (now (t .entry)) (record { start = i; known = r })) × UnsureAt (now (t .entry)) (s .start) (s .known) (s .unsure) ⌝ }
 {
@@ -170,8 +162,8 @@ fn run(p: &[u32], t: &[u32], list: &mut [u32]) -> Work
 // Every start at which the pattern meets the text, by KMP.
 pub fn search(k: u32, p: &[u32], t: &[u32], list: &mut [u32]) -> Answer
     ensures promise { λ r. do ⌜ Searched kmpRun (← ⟦Letter::MAX_K⟧ .entry) (← ⟦Pattern::MAX_M⟧ .entry) (← ⟦Text::MAX_N⟧ .entry) k (now (p .entry)) (now (t .entry)) (now (list .entry)) r (now (list .exit)) ⌝ }
-    ensures scans { λ r. ⌜ (length (now (p .entry)) ≤ length (now (t .entry)) → scanOf r ≤ 2 * length (now (t .entry)) - length (now (p .entry))) ⌝ }
-    ensures trials { λ r. ⌜ (length (now (p .entry)) ≤ length (now (t .entry)) → shiftOf r ≤ (length (now (t .entry)) - length (now (p .entry))) * (length (now (p .entry)) - 1)) ⌝ }
+    ensures scan_bound { λ r. ⌜ (length (now (p .entry)) ≤ length (now (t .entry)) → scanOf r ≤ 2 * length (now (t .entry)) - length (now (p .entry))) ⌝ }
+    ensures shift_bound { λ r. ⌜ (length (now (p .entry)) ≤ length (now (t .entry)) → shiftOf r ≤ (length (now (t .entry)) - length (now (p .entry))) * (length (now (p .entry)) - 1)) ⌝ }
 {
     match checked(k, p, t) {
         Check::Refused(r) => Answer::Refused(r),

@@ -1,6 +1,6 @@
 -- `kmp::run` meets its contract: the loop keeps `SoFar`, and where the last unsure letter stands. Assumes nothing.
-use Prim.Native.Nat.{ℕ, _+_, _-_, _*_, _≤_, _<_}
-use mathlib.Core.Path.{_≡_, refl, sym, ap, _∙_}
+use Prim.Native.Nat.{ℕ, _+_, _-_, _≤_, _<_}
+use mathlib.Core.Path.{_≡_, refl, sym, ap}
 use mathlib.Core.Bool.{true}
 use mathlib.Core.List.{List}
 use native.Mathlib.Omega.{arith}
@@ -10,7 +10,7 @@ use lib.ListN.{length}
 use Rattle.hits.specs.Turns.{Turn}
 use Rattle.hits.specs.declared.work.Work.{Work}
 use Rattle.hits.proofs.LoopLaws.{SoFar, start, pass-one, kept, total-le, next-scan-le, next-shift-le, end-list, end-work}
-use Rattle.kmp.specs.Kmp.{At, UnsureAt, kmpTurn, kmpMore, kmpRun}
+use Rattle.kmp.specs.Kmp.{At, UnsureAt, kmpMore, kmpRun}
 use Rattle.kmp.proofs.KmpLaws.{sound, goes-on, scan-small, shift-small}
 use Rattle.kmp.proofs.CarryLaws.{unsure-begin}
 use Rattle.kmp.proofs.run.Statement.{statement}

@@ -1,9 +1,7 @@
 -- `kmp::search` meets its contract: what the checks say picks the case. Assumes nothing.
-use Prim.Native.Nat.{ℕ, _≤_, zero-le}
-use mathlib.Core.Path.{_≡_, refl, sym, ap, _∙_}
-use native.Mathlib.Omega.{arith}
+use Prim.Native.Nat.{zero-le}
+use mathlib.Core.Path.{sym, _∙_}
 use borrow.Author.Needs.{needs}
-use Rattle.hits.specs.declared.work.Work.{Work}
 use Rattle.inputs.proofs.CheckLaws.{sized}
 use Rattle.inputs.proofs.SearchLaws.{search-refused, search-found}
 use Rattle.kmp.specs.Kmp.{kmpRun}
