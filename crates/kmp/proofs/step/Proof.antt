@@ -79,7 +79,7 @@ shift-by-requires c κs =
     let s = k .before .before .before in
     let a = s .args in (
       omega arith,
-      reached k .1,
+      omega (arith, reached k),
       s .pre .1,
       s .pre .2,
       s .pre .3,
