@@ -115,15 +115,15 @@ scanned c =
     let a = k .before .before .before .args in
     ap (λ (x : ℕ). k .scan-on .result .met - a .r + x) (c .count .ensures) ∙ counted k
 
-few : (x m r : ℕ) → x ≤ m - r → m ≤ 64 → x ≤ 64
-few x m r a b = omega arith
+few : (x m r M : ℕ) → x ≤ m - r → m ≤ M → x ≤ M
+few x m r M a b = omega arith
 
 add-t21 : tie.Need-add-t21
 add-t21 c =
     let k = c .before .before .before .before .before in
     let a = k .before .before .before .args in
     let w = tests-le (a .p .now) (a .t .now) (a .i) (a .r) (length (a .p .now) - a .r) in
-    record { fits = lt-of-le-of-lt (few _ (length (a .p .now)) (a .r) (rw (scanned c) w) (k .before .before .before .pre .1)) (lit< tt) }
+    record { fits = lt-of-le-of-lt (few _ (length (a .p .now)) (a .r) _ (rw (scanned c) w) (k .before .before .before .pre .1)) (lit< tt) }
 
 returns-2 : tie.Need-returns-2
 unfolding nowMet
