@@ -1,2 +1,4 @@
 pub mod Last
 pub mod Tables
+pub mod Far
+pub mod Visits

@@ -1,0 +1,3 @@
+pub mod KmpLaws
+pub mod CarryLaws
+pub mod Examples

@@ -1,0 +1,88 @@
+-- `kmp::shift_by` meets its contract: the shift is tried where a letter is unsure, else it is the pattern's own, cut. Assumes nothing.
+use Prim.Native.Nat.{ℕ, _+_, _-_, min}
+use mathlib.Core.Path.{sym, ap, _∙_}
+use native.Mathlib.Omega.{arith}
+use borrow.Author.Needs.{needs}
+use borrow.Author.Tests.{le-leb, lt-leb}
+use lib.ListN.{length}
+use Rattle.pattern.proofs.ShiftTable.{front-shift}
+use Rattle.kmp.proofs.KmpLaws.{shift-is}
+use Rattle.kmp.proofs.CarryLaws.{plain-text, tests-plain, tests-unsure-pattern, tests-unsure-text}
+use Rattle.kmp.proofs.shift_by.Statement.{statement}
+use Rattle.kmp.proofs.shift_by.Tie as tie
+
+try-shifts-requires : tie.Need-try-shifts-requires
+try-shifts-requires c κs = search needs
+
+returns : tie.Need-returns
+returns c =
+    let s = c .before .before .before .before in
+    let a = s .args in
+    let p = s .pre .5 (a .h) (omega arith) ∙ lt-leb (a .h) (a .sure) (omega arith) in (
+      c .try-shifts .ensures .0 ∙ sym (shift-is (a .p .now) (a .t .now) (a .i) (a .h)),
+      c .try-shifts .ensures .1 ∙ sym (tests-unsure-pattern (a .p .now) (a .t .now) (a .i) (a .h) p),
+    )
+
+try-shifts-requires-2 : tie.Need-try-shifts-requires-2
+try-shifts-requires-2 c κs = search needs
+
+returns-2 : tie.Need-returns-2
+returns-2 c =
+    let s = c .before .before .before .before .before in
+    let a = s .args in
+    let t = plain-text (a .t .now) (a .i) (a .h) (a .u) (s .pre .7) ∙ lt-leb (a .u) (a .i) (omega arith) in (
+      c .try-shifts2 .ensures .0 ∙ sym (shift-is (a .p .now) (a .t .now) (a .i) (a .h)),
+      c .try-shifts2 .ensures .1 ∙ sym (tests-unsure-text (a .p .now) (a .t .now) (a .i) (a .h) t),
+    )
+
+add-end : tie.Need-add-end
+add-end c = search needs
+
+add-end-2 : tie.Need-add-end-2
+add-end-2 c = search needs
+
+sub-end : tie.Need-sub-end
+sub-end c = search needs
+
+mul-wide : tie.Need-mul-wide
+mul-wide c = search needs
+
+element-copy-out-wide : tie.Need-element-copy-out-wide
+element-copy-out-wide c = search needs
+
+wide-requires : tie.Need-wide-requires
+wide-requires c κs = search needs
+
+smaller-requires : tie.Need-smaller-requires
+smaller-requires c κs = search needs
+
+returns-3 : tie.Need-returns-3
+returns-3 c =
+    let s = c .before .before .before .before .before .before .before in
+    let a = s .args in
+    let P = a .p .now in
+    let T = a .t .now in
+    let p = s .pre .5 (a .h) (omega arith) ∙ le-leb (a .h) (a .sure) (omega arith) in
+    let t = plain-text T (a .i) (a .h) (a .u) (s .pre .7) ∙ le-leb (a .u) (a .i) (omega arith) in (
+      c .smaller .ensures
+          ∙ ap (λ (x : ℕ). min x (length T + 1 - (length P + a .i))) (c .before .wide .ensures)
+          ∙ sym (shift-is P T (a .i) (a .h) ∙ front-shift P T (a .by .now) (a .i) (a .h) (s .pre .4) (omega arith) (omega arith) (omega arith) (s .pre .6) p t),
+      sym (tests-plain P T (a .i) (a .h) p t),
+    )
+
+pub shift-by-spec : {M : Type 1} → statement M
+shift-by-spec =
+    tie.close
+    (tie.spec
+    try-shifts-requires
+    returns
+    try-shifts-requires-2
+    returns-2
+    add-end
+    add-end-2
+    sub-end
+    mul-wide
+    element-copy-out-wide
+    wide-requires
+    smaller-requires
+    returns-3)

@@ -1,0 +1,37 @@
+-- A letter with one member, as a power: its digits, and what meets it. Assumes nothing.
+use mathlib.Core.Path.{_≡_, refl, sym, ap, _∙_}
+use Prim.Native.Nat.{ℕ, zero, suc, _/_, _^_}
+use native.Mathlib.Nat.{pow-suc}
+use native.Mathlib.Omega.{arith}
+use Rattle.letters.specs.Digits.{digit}
+use Rattle.letters.specs.Letters.{member, meets}
+use Rattle.letters.proofs.Truth.{same-test}
+use Rattle.letters.proofs.DigitLaws.{digit-zero, digit-lt}
+use Rattle.letters.proofs.LetterLaws.{member-digit, digit-member, meets-some, some-meets}
+
+pub power-self : (i : ℕ) → digit i (2 ^ i) ≡ 1
+unfolding digit
+power-self zero = refl
+power-self (suc i) = let p = pow-suc 2 i in let h : 2 ^ suc i / 2 ≡ 2 ^ i = omega arith in ap (digit i) h ∙ power-self i
+
+pub power-only : (i j : ℕ) → digit j (2 ^ i) ≡ 1 → j ≡ i
+unfolding digit
+power-only zero zero h = refl
+power-only zero (suc j) h = absurd (let z : digit j 0 ≡ 0 = digit-zero j in let e : digit j (2 ^ 0 / 2) ≡ digit j 0 = refl in omega arith)
+power-only (suc i) zero h = absurd (let p = pow-suc 2 i in omega arith)
+power-only (suc i) (suc j) h =
+    let p = pow-suc 2 i in
+    let e : 2 ^ suc i / 2 ≡ 2 ^ i = omega arith in
+    ap suc (power-only i j (sym (ap (digit j) e) ∙ h))
+
+pub power-other : (i j : ℕ) → (j ≡ i → ⊥) → digit j (2 ^ i) ≡ 0
+power-other i j n = let l = digit-lt j (2 ^ i) in let o : (digit j (2 ^ i) ≡ 1 → ⊥) = (λ q. n (power-only i j q)) in omega arith
+
+-- a letter meets a lone base letter exactly if it has that member
+pub meets-lone : (x b : ℕ) → meets x (2 ^ b) ≡ member b x
+meets-lone x b =
+    same-test (meets x (2 ^ b)) (member b x)
+    (λ y. let w = meets-some x (2 ^ b) y in
+    let e = power-only b (w .0) (member-digit (w .0) (2 ^ b) (w .2)) in
+    ap (λ (a : ℕ). member a x) (sym e) ∙ w .1)
+    (λ y. some-meets x (2 ^ b) b y (digit-member b (2 ^ b) (power-self b)))
