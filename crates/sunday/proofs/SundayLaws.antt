@@ -1,0 +1,106 @@
+-- Sunday is sound, since a start that it passes over is no hit, so its run finds the hits; and it makes at most m tests a start. Assumes nothing.
+use mathlib.Core.Path.{_≡_, refl, sym, ap, _∙_}
+use mathlib.Core.Bool.{false}
+use mathlib.Core.List.{List, []}
+use Prim.Native.Nat.{ℕ, suc, _+_, _-_, _*_, _≤_, _<_}
+use native.Mathlib.Nat.{mul-le-mul-left, mul-le-mul-right}
+use native.Mathlib.Omega.{arith}
+use borrow.Author.Tests.{leb-true, leb-false, eq-eqb, ne-eqb, eqb-true, eqb-false}
+use lib.Dec.{eqb}
+use lib.ListN.{length, getD}
+use Rattle.letters.specs.Members.{keep}
+use Rattle.letters.proofs.Truth.{bool-cases}
+use Rattle.hits.specs.Hits.{within, hitAt, hits}
+use Rattle.hits.specs.Turns.{Turn, Run}
+use Rattle.hits.proofs.HitLaws.{no-hit, one-from}
+use Rattle.hits.proofs.ScanLaws.{scan-hit, tests-le}
+use Rattle.hits.proofs.RunLaws.{Sound, finds-all, per-start}
+use Rattle.pattern.specs.Last.{afterR}
+use Rattle.pattern.proofs.LastLaws.{last-above, r-le}
+use Rattle.sunday.specs.Sunday.{nextStart, sundayTurn, sundayRun}
+
+module _ (P T : List ℕ) where
+  module _ (i : ℕ) where
+    -- R + 1 of the letter after the window
+    abbrev r : ℕ
+    r = afterR P (getD T (i + length P) 0)
+
+    pub next-end : i + length P ≡ length T → nextStart P T i ≡ i + 1
+    unfolding nextStart
+    next-end e = rw (eq-eqb (i + length P) (length T) e)
+
+    pub next-on : (i + length P ≡ length T → ⊥) → nextStart P T i ≡ i + (length P + 1 - r)
+    unfolding nextStart
+    next-on n = rw (ne-eqb (i + length P) (length T) n)
+
+    -- a start that is passed over has the letter after the window under a pattern letter above R
+    passed : (j : ℕ) → i < j → j + r ≤ i + length P → hitAt P T j ≡ false
+    unfolding afterR
+    passed j l k =
+        let q : j + (i + length P - j) ≡ i + length P = omega arith in
+        no-hit P T j (i + length P - j) (omega arith)
+        (rw q (last-above P (getD T (i + length P) 0) (length P) (i + length P - j) (omega arith) (omega arith)))
+
+    module _ (l : i + length P ≤ length T) where
+      pub next-gt : i < nextStart P T i
+      next-gt =
+          bool-cases (eqb (i + length P) (length T))
+          (λ y. omega (arith, next-end (eqb-true _ _ y)))
+          (λ n. omega (arith, next-on (eqb-false _ _ n), r-le P (getD T (i + length P) 0)))
+
+      pub next-le : nextStart P T i ≤ length T + 1
+      next-le =
+          bool-cases (eqb (i + length P) (length T))
+          (λ y. omega (arith, next-end (eqb-true _ _ y)))
+          (λ n. omega (arith, next-on (eqb-false _ _ n)))
+
+      pub next-passes : (j : ℕ) → i < j → j < nextStart P T i → hitAt P T j ≡ false
+      next-passes j u v =
+          bool-cases (eqb (i + length P) (length T))
+          (λ y. absurd (let z = next-end (eqb-true _ _ y) in omega arith))
+          (λ n. let z = next-on (eqb-false _ _ n) in passed j u (let w = r-le P (getD T (i + length P) 0) in omega arith))
+
+  -- every start below the present one is settled
+  unfoldable pub sound : Sound P T (within P T) (sundayTurn P T) (suc (length T)) 0
+  unfolding sundayTurn
+  sound =
+      record {
+        left = λ i. length T + 1 - (i + length P);
+        settled = λ i. i;
+        ok = λ i. Unit {0};
+        begins = tt;
+        enough = omega arith;
+        nothing = refl;
+        fair = λ i o y.
+            let l : i + length P ≤ length T = leb-true _ _ y in
+            let g = next-gt i l in
+            record {
+              falls = omega arith;
+              still = tt;
+              gap = suc (nextStart P T i - suc i);
+              moved = omega arith;
+              right = ap (λ b. keep b i []) (scan-hit P T i l) ∙ sym (one-from P T (nextStart P T i - suc i) i (λ j u v. next-passes i l j u (omega arith)));
+            };
+        ends = λ i o n. leb-false _ _ n;
+      }
+
+  -- the rule's run finds exactly the hits
+  pub sunday-finds : sundayRun P T .found ≡ hits P T
+  unfolding sundayRun
+  sunday-finds = finds-all sound
+
+  -- scan tests: at most m (n - m + 1)
+  pub sunday-scan : sundayRun P T .scan ≤ length P * (length T + 1 - length P)
+  unfolding sundayRun sundayTurn sound
+  sunday-scan =
+      per-start sound (λ (r : Run). r .scan) (λ (t : Turn ℕ). t .scan) refl (λ t r. refl) (λ (i : ℕ). i) (length P)
+      (λ i y. leb-true _ _ y)
+      (λ i o y. next-gt i (leb-true _ _ y))
+      (λ i o y. tests-le P T i 0 (length P))
+      refl
+
+  -- within the limits it fits a word
+  pub sunday-small : length P ≤ 64 → length T ≤ 65536 → sundayRun P T .scan ≤ 64 * 65537
+  sunday-small h k =
+      let a : length T + 1 - length P ≤ 65537 = omega arith in
+      omega (arith, sunday-scan, mul-le-mul-right (length T + 1 - length P) h, mul-le-mul-left 64 a)

@@ -1,0 +1,89 @@
+// The engine Sunday: tests left to right, then shifts by m - R(T[i+m]), the letter after the window; if i + m = n it ends.
+use hits::scan::reach_to;
+use hits::work::Work;
+use hits::work::count;
+use hits::work::note;
+use inputs::checks::Text;
+use inputs::checks::checked;
+use inputs::refusal::Answer;
+use inputs::refusal::Check;
+use letters::letter::Letter;
+use pattern::Pattern;
+use pattern::after_r;
+ghost use mathlib.Core.Path.{_≡_};
+ghost use Prim.Native.Nat.{_+_, _-_, _*_, _≤_, _<_};
+ghost use lib.ListN.{length};
+ghost use Rattle.hits.specs.Hits.{hits, over};
+ghost use Rattle.hits.specs.Counts.{workOf};
+ghost use Rattle.inputs.specs.Answers.{Searched, scanOf};
+ghost use Rattle.pattern.specs.Tables.{LastTable};
+ghost use Rattle.sunday.specs.Sunday.{nextStart, sundayTurn, sundayRun, turnOf};
+
+struct Turned {
+    hit: bool,
+    next: usize,
+    scan: u64,
+}
+
+// The start after i. The letter after the window is read only if there is one.
+fn next_start(p: &[u32], t: &[u32], lasts: &[u32; 32], i: usize) -> usize
+    requires { ⌜ (i + length (now p) ≤ length (now t)) × LastTable 32 (now p) (now lasts) ⌝ }
+    ensures { λ r. ⌜ r ≡ nextStart (now (p .entry)) (now (t .entry)) i ⌝ }
+{
+    let e = i + p.len();
+    if e == t.len() {
+        return i + 1;
+    }
+    e + 1 - after_r(lasts, t[e])
+}
+
+// A turn at start i.
+fn step(p: &[u32], t: &[u32], lasts: &[u32; 32], i: usize) -> Turned
+    requires { ⌜ (length (now p) ≤ 64) × (i + length (now p) ≤ length (now t)) × LastTable 32 (now p) (now lasts) ⌝ }
+    ensures { λ r. ⌜ turnOf i r ≡ sundayTurn (now (p .entry)) (now (t .entry)) i ⌝ }
+{
+    let m = p.len();
+    let j = reach_to(p, t, i, 0, m);
+    Turned {
+        hit: j == m,
+        next: next_start(p, t, lasts, i),
+        scan: j as u64 + count(j < m),
+    }
+}
+
+// The run over all starts.
+fn run(p: &[u32], t: &[u32], list: &mut [u32]) -> Work
+    requires { ⌜ (length (now p) ≤ 64) × (length (now t) ≤ 65536) ⌝ }
+    ensures { λ r. ⌜ (r ≡ workOf (hits (now (p .entry)) (now (t .entry))) (sundayRun (now (p .entry)) (now (t .entry)))) × (now (list .exit) ≡ over (hits (now (p .entry)) (now (t .entry))) (now (list .entry))) ⌝ }
+{
+    let m = p.len();
+    let n = t.len();
+    let q = Pattern::new(p);
+    let lasts = q.lasts;
+    let mut i = 0;
+    let mut total = 0;
+    let mut scan: u64 = 0;
+    while i + m <= n {
+        let s = step(p, t, &lasts, i);
+        total = note(list, total, i, s.hit);
+        scan += s.scan;
+        i = s.next;
+    }
+    Work {
+        total,
+        scan,
+        shift: 0,
+        steps: 0,
+    }
+}
+
+// Every start at which the pattern meets the text, by Sunday.
+pub fn search(k: u32, p: &[u32], t: &[u32], list: &mut [u32]) -> Answer
+    ensures promise { λ r. do ⌜ Searched sundayRun (← ⟦Letter::MAX_K⟧ .entry) (← ⟦Pattern::MAX_M⟧ .entry) (← ⟦Text::MAX_N⟧ .entry) k (now (p .entry)) (now (t .entry)) (now (list .entry)) r (now (list .exit)) ⌝ }
+    ensures bound { λ r. ⌜ scanOf r ≤ length (now (p .entry)) * (length (now (t .entry)) + 1 - length (now (p .entry))) ⌝ }
+{
+    match checked(k, p, t) {
+        Check::Refused(r) => Answer::Refused(r),
+        Check::Passed => Answer::Found(run(p, t, list)),
+    }
+}
