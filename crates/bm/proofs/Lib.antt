@@ -1,0 +1,4 @@
+pub mod BmLaws
+pub mod ScanLaws
+pub mod StepLaws
+pub mod Examples

@@ -1,0 +1,50 @@
+-- `bm::fail_shift` meets its contract: R + 1 is taken from j + 1, and 1 is the least. Assumes nothing.
+use Prim.Native.Nat.{ℕ, _+_, _-_, max}
+use mathlib.Core.Path.{ap, _∙_}
+use native.Mathlib.Numerals.{add-one}
+use borrow.Author.Needs.{needs}
+use Rattle.bm.specs.Bm.{failShift}
+use Rattle.bm.proofs.fail_shift.Statement.{statement}
+use Rattle.bm.proofs.fail_shift.Tie as tie
+
+add-after-r : tie.Need-add-after-r
+add-after-r c = search needs
+
+mul-after-r : tie.Need-mul-after-r
+mul-after-r c = search needs
+
+shared-slice-read-after-r : tie.Need-shared-slice-read-after-r
+shared-slice-read-after-r c = search needs
+
+after-r-requires : tie.Need-after-r-requires
+after-r-requires c κs = search needs
+
+add-less : tie.Need-add-less
+add-less c = search needs
+
+less-requires : tie.Need-less-requires
+less-requires c κs = search needs
+
+larger-requires : tie.Need-larger-requires
+larger-requires c κs = search needs
+
+returns : tie.Need-returns
+unfolding failShift
+returns c P t =
+    let r = c .before .before in
+    let j = r .before .before .before .args .j in
+    c .larger .ensures
+    ∙ ap (max 1) (c .before .less .ensures ∙ ap (λ (x : ℕ). j + 1 - x) (r .after-r .ensures P t) ∙ rw (add-one j))
+
+pub fail-shift-spec : {M : Type 1} → statement M
+fail-shift-spec =
+    tie.close
+    (tie.spec
+    add-after-r
+    mul-after-r
+    shared-slice-read-after-r
+    after-r-requires
+    add-less
+    less-requires
+    larger-requires
+    returns)

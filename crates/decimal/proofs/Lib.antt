@@ -1,0 +1,4 @@
+pub mod FrontLaws
+pub mod DecimalLaws
+pub mod CountLaws
+pub mod StoreLaws

@@ -1,0 +1,188 @@
+-- Hybrid is sound, so its run finds the hits; and its tests and word steps are bounded. Assumes nothing.
+use mathlib.Core.Path.{_≡_, refl, sym, ap, _∙_}
+use mathlib.Core.Bool.{Bool, true, false, cond}
+use mathlib.Core.List.{List, []}
+use mathlib.Core.Logic.{⊎-elim}
+use Prim.Native.Nat.{ℕ, zero, suc, _+_, _-_, _*_, _≤_, _<_}
+use native.Mathlib.Nat.{eq-or-lt-of-le}
+use native.Mathlib.Omega.{arith}
+use borrow.Author.Tests.{leb-true, leb-false, lt-leb, eqb-true, eqb-false, eq-eqb, ne-eqb}
+use lib.Dec.{eqb, leb}
+use lib.ListN.{length, getD}
+use Rattle.letters.specs.Letters.{meets}
+use Rattle.letters.proofs.Truth.{bool-cases}
+use Rattle.hits.specs.Hits.{within, hitAt, hits, hitsFrom}
+use Rattle.hits.specs.Turns.{Turn, Run, idle}
+use Rattle.hits.proofs.HitLaws.{no-hit, no-hit-past, none-from}
+use Rattle.hits.proofs.RunLaws.{Sound, Fair, run-stop, finds-all, bounded, per-start}
+use Rattle.pattern.specs.Last.{lastIn, afterR}
+use Rattle.pattern.proofs.LastLaws.{last-above, r-le}
+use Rattle.word.proofs.WordLaws.{zero-means}
+use Rattle.hybrid.specs.Stretches.{Stretch, stretch}
+use Rattle.hybrid.specs.Hybrid.{stretched, shifted, sundayNext, hybridTurn, hybridRun}
+use Rattle.hybrid.proofs.StretchLaws.{waiting, Fine, fine, some-step}
+
+module _ (P T : List ℕ) where
+  -- the test of the last letter at start a
+  abbrev pub last-meets : ℕ → Bool
+  last-meets a = meets (getD P (length P - 1) 0) (getD T (a + length P - 1) 0)
+
+  pub turn-yes : (a : ℕ) → last-meets a ≡ true → hybridTurn P T a ≡ stretched (stretch P T (length T - a) a 0)
+  unfolding hybridTurn
+  turn-yes a y = rw y
+
+  pub turn-no : (a : ℕ) → last-meets a ≡ false → hybridTurn P T a ≡ shifted (sundayNext P T a)
+  unfolding hybridTurn
+  turn-no a n = rw n
+
+  -- a start that Sunday's shift passes: its letter over T[a+m] stands above R, or it lies past n - m
+  module _ (a : ℕ) (l : a + length P ≤ length T) where
+    pub next-end : a + length P ≡ length T → sundayNext P T a ≡ length T + 1
+    unfolding sundayNext
+    next-end e = rw (eq-eqb _ _ e)
+
+    pub next-on : (a + length P ≡ length T → ⊥) → sundayNext P T a ≡ a + (length P + 1 - afterR P (getD T (a + length P) 0))
+    unfolding sundayNext
+    next-on n = rw (ne-eqb _ _ n)
+
+    pub next-ahead : a < sundayNext P T a
+    next-ahead =
+        bool-cases (eqb (a + length P) (length T))
+        (λ y. omega (arith, next-end (eqb-true _ _ y)))
+        (λ n. omega (arith, next-on (eqb-false _ _ n), r-le P (getD T (a + length P) 0)))
+
+    pub next-near : sundayNext P T a ≤ length T + 1
+    next-near =
+        bool-cases (eqb (a + length P) (length T))
+        (λ y. omega (arith, next-end (eqb-true _ _ y)))
+        (λ n. omega (arith, next-on (eqb-false _ _ n)))
+
+    under : (i : ℕ) → a < i → i < a + (length P + 1 - afterR P (getD T (a + length P) 0)) → hitAt P T i ≡ false
+    unfolding afterR
+    under i k h =
+        bool-cases (leb i (a + length P))
+        (λ y. let u : i ≤ a + length P = leb-true _ _ y in
+        let z : i + (a + length P - i) ≡ a + length P = omega arith in
+        no-hit P T i (a + length P - i) (omega arith)
+        (rw z (last-above P (getD T (a + length P) 0) (length P) (a + length P - i) (omega arith) (omega arith))))
+        (λ z. absurd (let u : a + length P < i = leb-false _ _ z in omega arith))
+
+    passed : (i : ℕ) → a < i → i < sundayNext P T a → hitAt P T i ≡ false
+    passed i k h =
+        bool-cases (eqb (a + length P) (length T))
+        (λ y. let e : a + length P ≡ length T = eqb-true _ _ y in no-hit-past P T i (omega arith))
+        (λ n. under i k (omega (arith, next-on (eqb-false _ _ n))))
+
+    shift-right : 0 < length P → last-meets a ≡ false → hitsFrom P T (sundayNext P T a - a) a ≡ []
+    shift-right p n =
+        let z : a + length P - 1 ≡ a + (length P - 1) = omega arith in
+        let f : meets (getD P (length P - 1) 0) (getD T (a + (length P - 1)) 0) ≡ false = rw z at n in
+        none-from P T (sundayNext P T a - a) a
+        (λ i u v. ⊎-elim (λ (q : a ≡ i). rw (← q) (no-hit P T a (length P - 1) (omega arith) f)) (λ (q : a < i). passed i q (omega (arith, next-ahead))) (eq-or-lt-of-le u))
+
+  module _ (p : 0 < length P) where
+    -- the word steps from a start that fits
+    pub steps-fine : (a : ℕ) → a + length P ≤ length T → Fine P T a a (stretch P T (length T - a) a 0)
+    steps-fine a l = fine P T a p (length T - a) a 0 (omega arith) (omega arith) (zero-means P T a)
+
+    pub steps-ahead : (a : ℕ) → a + length P ≤ length T → a < stretch P T (length T - a) a 0 .next
+    steps-ahead a l =
+        let w = steps-fine a l .ahead in
+        omega (arith, some-step P T (length T - a) a 0 (omega arith))
+
+    pub turn-fair : (a : ℕ) → a + length P ≤ length T → Fair P T (λ (i : ℕ). length T + 1 - (i + length P)) (λ (i : ℕ). i) (λ (i : ℕ). Unit {0}) a (hybridTurn P T a)
+    turn-fair a l =
+        bool-cases (last-meets a)
+        (λ y. let w = steps-fine a l in
+        let k = steps-ahead a l in
+        let z : waiting P a a ≡ a = omega arith in
+        rw (turn-yes a y)
+        (record {
+          falls = omega arith;
+          still = tt;
+          gap = stretch P T (length T - a) a 0 .next - a;
+          moved = omega arith;
+          right = rw z at (w .finds);
+        }))
+        (λ n. let k = next-ahead a l in
+        rw (turn-no a n)
+        (record {
+          falls = omega arith;
+          still = tt;
+          gap = sundayNext P T a - a;
+          moved = omega arith;
+          right = sym (shift-right a l p n);
+        }))
+
+    -- every start below the present one is settled
+    unfoldable pub sound : Sound P T (within P T) (hybridTurn P T) (suc (length T)) 0
+    sound =
+        record {
+          left = λ i. length T + 1 - (i + length P);
+          settled = λ i. i;
+          ok = λ i. Unit {0};
+          begins = tt;
+          enough = omega arith;
+          nothing = refl;
+          fair = λ i o y. turn-fair i (leb-true _ _ y);
+          ends = λ i o n. leb-false _ _ n;
+        }
+
+    -- the rule's run finds exactly the hits
+    pub hybrid-finds : hybridRun P T .found ≡ hits P T
+    unfolding hybridRun
+    hybrid-finds = finds-all sound
+
+    one-test : (a : ℕ) → hybridTurn P T a .scan ≡ 1
+    one-test a = bool-cases (last-meets a) (λ y. rw (turn-yes a y)) (λ n. rw (turn-no a n))
+
+    pub no-shift : (a : ℕ) → hybridTurn P T a .shift ≡ 0
+    no-shift a = bool-cases (last-meets a) (λ y. rw (turn-yes a y)) (λ n. rw (turn-no a n))
+
+    -- a step for each position that a turn moves on, if it takes any
+    turn-pays : (a : ℕ) → a + length P ≤ length T → hybridTurn P T a .steps + (length T - hybridTurn P T a .next) ≤ length T - a
+    turn-pays a l =
+        bool-cases (last-meets a)
+        (λ y. let w = steps-fine a l in rw (turn-yes a y) (omega (arith, w .ahead, w .within)))
+        (λ n. rw (turn-no a n) (omega (arith, next-ahead a l)))
+
+    -- the next start is ahead, and at most one past the text
+    pub goes-on : (a : ℕ) → a + length P ≤ length T → a < hybridTurn P T a .next
+    goes-on a l = bool-cases (last-meets a) (λ y. rw (turn-yes a y) (steps-ahead a l)) (λ n. rw (turn-no a n) (next-ahead a l))
+
+    pub stays-near : (a : ℕ) → a + length P ≤ length T → hybridTurn P T a .next ≤ length T + 1
+    stays-near a l =
+        bool-cases (last-meets a)
+        (λ y. let w = steps-fine a l .within in rw (turn-yes a y) (omega arith))
+        (λ n. rw (turn-no a n) (next-near a l))
+
+    -- scan tests: at most n - m + 1
+    pub hybrid-scan : hybridRun P T .scan ≤ length T + 1 - length P
+    unfolding hybridRun sound
+    hybrid-scan =
+        let h = per-start sound (λ (r : Run). r .scan) (λ (t : Turn ℕ). t .scan) refl (λ t r. refl) (λ (i : ℕ). i) 1
+                (λ i y. leb-true _ _ y)
+                (λ i o y. goes-on i (leb-true _ _ y))
+                (λ i o y. omega (arith, one-test i))
+                refl
+        in
+        omega arith
+
+    -- word steps: at most n
+    pub hybrid-steps : hybridRun P T .steps ≤ length T
+    unfolding hybridRun sound
+    hybrid-steps =
+        let h = bounded sound (λ (r : Run). r .steps) (λ (t : Turn ℕ). t .steps) refl (λ t r. refl) (λ (i : ℕ). length T - i) (λ i o y. turn-pays i (leb-true _ _ y)) in
+        omega arith
+
+  -- no work where the pattern is longer than the text
+  pub hybrid-idle : length T < length P → hybridRun P T ≡ idle
+  unfolding hybridRun
+  hybrid-idle l = run-stop (within P T) (hybridTurn P T) (suc (length T)) 0 (lt-leb (0 + length P) (length T) (omega arith))
+
+  -- both together: at most 2 n - m + 1
+  pub hybrid-work : 0 < length P → hybridRun P T .scan + hybridRun P T .steps ≤ 2 * length T + 1 - length P
+  hybrid-work p =
+      bool-cases (leb (length P) (length T))
+      (λ y. let l : length P ≤ length T = leb-true _ _ y in omega (arith, hybrid-scan p, hybrid-steps p))
+      (λ n. rw (hybrid-idle (leb-false _ _ n)) (omega arith))

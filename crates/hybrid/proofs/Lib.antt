@@ -1,0 +1,4 @@
+pub mod StretchLaws
+pub mod StretchLoop
+pub mod HybridLaws
+pub mod Examples

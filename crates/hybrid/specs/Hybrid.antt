@@ -1,0 +1,46 @@
+-- Hybrid (002, figure 1): a scan test of the last letter at each start; Sunday's shift where it fails, word steps where it holds.
+use Prim.Native.Nat.{ℕ, suc, _+_, _-_}
+use mathlib.Core.Bool.{cond}
+use mathlib.Core.List.{List, []}
+use lib.Dec.{eqb}
+use lib.ListN.{length, getD}
+use Rattle.promise.specs.Promised.{Promised}
+use Rattle.letters.specs.Letters.{meets}
+use Rattle.hits.specs.Hits.{within}
+use Rattle.hits.specs.Turns.{Turn, Run, run}
+use Rattle.hits.specs.Counts.{notedAll}
+use Rattle.pattern.specs.Last.{afterR}
+use Rattle.hybrid.specs.Stretches.{Stretch, stretch}
+use Rattle.hybrid.specs.declared.Turned.{Turned}
+
+-- the test holds: the state is cleared and word steps are taken from a; the next start is the position after the last step
+abbrev pub stretched : Stretch → Turn ℕ
+stretched r = record { found = r .found; next = r .next; scan = 1; shift = 0; steps = r .steps }
+
+-- the test fails: on to the next start
+abbrev pub shifted : ℕ → Turn ℕ
+shifted i = record { found = []; next = i; scan = 1; shift = 0; steps = 0 }
+
+-- the start after a failure at a: past all starts if a + m = n, else a shift by m - R(T[a+m])
+unfoldable pub sundayNext : List ℕ → List ℕ → ℕ → ℕ
+sundayNext P T a =
+    cond (eqb (a + length P) (length T)) (length T + 1) (a + (length P + 1 - afterR P (getD T (a + length P) 0)))
+
+-- a turn at start a
+unfoldable pub hybridTurn : List ℕ → List ℕ → ℕ → Turn ℕ
+hybridTurn P T a =
+    cond (meets (getD P (length P - 1) 0) (getD T (a + length P - 1) 0))
+    (stretched (stretch P T (length T - a) a 0))
+    (shifted (sundayNext P T a))
+
+-- from start 0, until the start exceeds n - m
+unfoldable pub hybridRun : List ℕ → List ℕ → Run
+hybridRun P T = run (within P T) (hybridTurn P T) (suc (length T)) 0
+
+-- what a turn comes to in code, where `total` hits were noted before it
+abbrev pub turnedOf : ℕ → Turn ℕ → Turned
+turnedOf total t = record { next = t .next; total = total + length (t .found); scan = t .scan; steps = t .steps }
+
+-- a step of the code makes the turn t: d is the lent list before, `left` the list afterwards
+abbrev pub Turns : Turn ℕ → List ℕ → ℕ → Turned → List ℕ → Type 0
+Turns t d total r left = Promised (turnedOf total t) (notedAll (t .found) d total) r left

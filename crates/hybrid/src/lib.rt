@@ -1,0 +1,138 @@
+// The engine Hybrid (002, figure 1): a scan test of the last letter at each start; Sunday's shift where it fails, word steps where it holds.
+//
+// Departures from the figure: a start whose end is the text's end shifts no more, since no letter stands behind it; and word steps that end with a state of 0 go on at the position after them.
+use hits::work::Work;
+use hits::work::note;
+use inputs::checks::Text;
+use inputs::checks::checked;
+use inputs::refusal::Answer;
+use inputs::refusal::Check;
+use letters::letter::Letter;
+use letters::letter::meet;
+use pattern::Pattern;
+use pattern::after_r;
+use pattern::masks::Masks;
+use word::advance;
+use word::is_set;
+use word::start_of;
+ghost use mathlib.Core.Path.{_≡_};
+ghost use Prim.Native.Nat.{_+_, _-_, _*_, _≤_, _<_};
+ghost use lib.ListN.{length};
+ghost use Rattle.hits.specs.Hits.{hits, over};
+ghost use Rattle.hits.specs.Counts.{workOf};
+ghost use Rattle.pattern.specs.Tables.{LastTable, MaskTable};
+ghost use Rattle.inputs.specs.Answers.{Searched, scanOf, stepsOf};
+ghost use Rattle.hybrid.specs.Stretches.{stretch};
+ghost use Rattle.hybrid.specs.Hybrid.{stretched, sundayNext, hybridTurn, hybridRun, Turns};
+
+struct Turned {
+    next: usize,
+    total: usize,
+    scan: u64,
+    steps: u64,
+}
+
+// Where the test at start a holds: word steps from a, with the state cleared, until the state is 0 or the text ends. Hits are noted after `total` others.
+fn steps_from(p: &[u32], rows: &[u64; 32], t: &[u32], a: usize, list: &mut [u32], total: usize) -> Turned
+    requires { ⌜ (0 < length (now p)) × (length (now p) ≤ 64) × (length (now t) ≤ 65536) × (a ≤ length (now t)) × (total ≤ 65537) × MaskTable 32 (now p) (now rows) ⌝ }
+    ensures { λ r. ⌜ Turns (stretched (stretch (now (p .entry)) (now (t .entry)) (length (now (t .entry)) - a) a 0)) (now (list .entry)) total r (now (list .exit)) ⌝ }
+{
+    let m = p.len();
+    let n = t.len();
+    let mut e = a;
+    let mut d: u64 = 0;
+    let mut count = total;
+    while e < n {
+        d = advance(rows, t[e], d);
+        e += 1;
+        count = note(list, count, start_of(e, m), is_set(d, m - 1));
+        if d == 0 {
+            return ran(a, e, count);
+        }
+    }
+    ran(a, e, count)
+}
+
+// The turn whose word steps went from a to e.
+fn ran(a: usize, e: usize, total: usize) -> Turned
+    requires { ⌜ a ≤ e ⌝ }
+    ensures { λ r. ⌜ r ≡ record { next = e; total = total; scan = 1; steps = e - a } ⌝ }
+{
+    Turned {
+        next: e,
+        total,
+        scan: 1,
+        steps: (e - a) as u64,
+    }
+}
+
+// The start after a failure at a, by Sunday's shift; no letter is read where the text ends.
+fn sunday_next(p: &[u32], lasts: &[u32; 32], t: &[u32], a: usize) -> usize
+    requires { ⌜ (length (now p) ≤ 64) × (length (now t) ≤ 65536) × (a + length (now p) ≤ length (now t)) × LastTable 32 (now p) (now lasts) ⌝ }
+    ensures { λ r. ⌜ r ≡ sundayNext (now (p .entry)) (now (t .entry)) a ⌝ }
+{
+    let m = p.len();
+    let n = t.len();
+    if a + m == n {
+        return n + 1;
+    }
+    a + (m + 1 - after_r(lasts, t[a + m]))
+}
+
+// A turn at start a. Hits are noted after `total` others.
+fn step(p: &[u32], rows: &[u64; 32], lasts: &[u32; 32], t: &[u32], a: usize, list: &mut [u32], total: usize) -> Turned
+    requires { ⌜ (0 < length (now p)) × (length (now p) ≤ 64) × (length (now t) ≤ 65536) × (a + length (now p) ≤ length (now t)) × (total ≤ 65537) × MaskTable 32 (now p) (now rows) × LastTable 32 (now p) (now lasts) ⌝ }
+    ensures { λ r. ⌜ Turns (hybridTurn (now (p .entry)) (now (t .entry)) a) (now (list .entry)) total r (now (list .exit)) ⌝ }
+{
+    let m = p.len();
+    if meet(p[m - 1], t[a + m - 1]) {
+        return steps_from(p, rows, t, a, list, total);
+    }
+    Turned {
+        next: sunday_next(p, lasts, t, a),
+        total,
+        scan: 1,
+        steps: 0,
+    }
+}
+
+// The run over all starts.
+fn run(p: &[u32], t: &[u32], list: &mut [u32]) -> Work
+    requires { ⌜ (0 < length (now p)) × (length (now p) ≤ 64) × (length (now t) ≤ 65536) ⌝ }
+    ensures { λ r. ⌜ (r ≡ workOf (hits (now (p .entry)) (now (t .entry))) (hybridRun (now (p .entry)) (now (t .entry)))) × (now (list .exit) ≡ over (hits (now (p .entry)) (now (t .entry))) (now (list .entry))) ⌝ }
+{
+    let m = p.len();
+    let n = t.len();
+    let masks = Masks::of(p);
+    let rows = masks.rows;
+    let prepared = Pattern::new(p);
+    let lasts = prepared.lasts;
+    let mut a = 0;
+    let mut total = 0;
+    let mut scan: u64 = 0;
+    let mut steps: u64 = 0;
+    while a + m <= n {
+        let s = step(p, &rows, &lasts, t, a, list, total);
+        total = s.total;
+        scan += s.scan;
+        steps += s.steps;
+        a = s.next;
+    }
+    Work {
+        total,
+        scan,
+        shift: 0,
+        steps,
+    }
+}
+
+// Every start at which the pattern meets the text, by Hybrid.
+pub fn search(k: u32, p: &[u32], t: &[u32], list: &mut [u32]) -> Answer
+    ensures promise { λ r. do ⌜ Searched hybridRun (← ⟦Letter::MAX_K⟧ .entry) (← ⟦Pattern::MAX_M⟧ .entry) (← ⟦Text::MAX_N⟧ .entry) k (now (p .entry)) (now (t .entry)) (now (list .entry)) r (now (list .exit)) ⌝ }
+    ensures bound { λ r. ⌜ (scanOf r ≤ length (now (t .entry)) + 1 - length (now (p .entry))) × (stepsOf r ≤ length (now (t .entry))) × (scanOf r + stepsOf r ≤ 2 * length (now (t .entry)) + 1 - length (now (p .entry))) ⌝ }
+{
+    match checked(k, p, t) {
+        Check::Refused(r) => Answer::Refused(r),
+        Check::Passed => Answer::Found(run(p, t, list)),
+    }
+}

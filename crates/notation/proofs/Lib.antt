@@ -1,0 +1,13 @@
+pub mod PickLaws
+pub mod FindLaws
+pub mod SpellLaws
+pub mod AlphabetLaws
+pub mod WrongLaws
+pub mod ReadLaws
+pub mod BracketLaws
+pub mod OneLaws
+pub mod WalkLaws
+pub mod FreshLaws
+pub mod AlphabetWrong
+pub mod Meaning
+pub mod Examples

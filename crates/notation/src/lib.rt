@@ -1,0 +1,3 @@
+// The letter notation: the alphabet and the lines of letters.
+pub mod alphabet;
+pub mod lines;

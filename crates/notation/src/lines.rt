@@ -1,0 +1,188 @@
+// Reading a line of letters.
+use crate::alphabet::look_up;
+ghost use mathlib.Core.Path.{_≡_};
+ghost use Prim.Native.Nat.{_+_, _-_, _≤_, _<_, _^_};
+ghost use lib.ListN.{length, drop};
+ghost use Rattle.notation.specs.Alphabet.{find, TableOf};
+ghost use Rattle.notation.specs.Reader.{mayFollow, out, scan};
+ghost use Rattle.notation.specs.Answers.{bracketFrom, oneAt, countedOf, lettersOf, Room};
+ghost use Rattle.hits.specs.Hits.{over};
+
+// What the reader of a bracket leaves with: the set and the place after the closer, or the place of the first wrong byte.
+pub enum Bracket {
+    After(u32, usize),
+    Wrong(usize),
+}
+
+// What stands at a place of a line: a letter and the place after it, the end and the place after it, or a wrong byte.
+pub enum One {
+    Letter(u32, usize),
+    End(usize),
+    Wrong(usize),
+}
+
+// A line: how many letters and the place after it, or the place of the first wrong byte.
+pub enum Line {
+    Counted(usize, usize),
+    Wrong(usize),
+}
+
+// The set of the letter j alone.
+fn single(j: usize) -> u32
+    requires { ⌜ j < 32 ⌝ }
+    ensures { λ r. ⌜ r ≡ 2 ^ j ⌝ }
+{
+    1u32 << j
+}
+
+// The set of all k letters.
+fn all(k: usize) -> u32
+    requires { ⌜ k ≤ 32 ⌝ }
+    ensures { λ r. ⌜ r ≡ 2 ^ k - 1 ⌝ }
+{
+    ((1u64 << k) - 1) as u32
+}
+
+fn may_follow(k: usize, above: usize, count: usize, j: usize) -> bool
+    requires { ⌜ (j ≤ k) × (count < k) × (k ≤ 32) ⌝ }
+    ensures { λ r. ⌜ r ≡ mayFollow k above count j ⌝ }
+{
+    if k <= j {
+        return false;
+    }
+    if j < above {
+        return false;
+    }
+    if k <= count + 1 {
+        return false;
+    }
+    if 1 <= count {
+        return true;
+    }
+    j + 1 < k
+}
+
+// Reads a bracket from the place after its opener.
+fn read_bracket(alphabet: &[u8], table: &[u8; 256], sheet: &[u8], from: usize) -> Bracket
+    requires { ⌜ (0 < length (now alphabet)) × (length (now alphabet) ≤ 32) × (from ≤ length (now sheet)) ⌝ }
+    requires { ⌜ TableOf (now alphabet) (now table) ⌝ }
+    ensures { λ r. ⌜ r ≡ bracketFrom (now (alphabet .entry)) 0 0 0 from (drop from (now (sheet .entry))) ⌝ }
+{
+    let mut at = from;
+    let mut set: u32 = 0;
+    let mut above: usize = 0;
+    let mut count: usize = 0;
+    let r = loop {
+        if at == sheet.len() {
+            break Bracket::Wrong(at);
+        }
+        let b = sheet[at];
+        if b == b']' {
+            if 2 <= count {
+                break Bracket::After(set, at + 1);
+            }
+            break Bracket::Wrong(at);
+        }
+        let j = look_up(table, b);
+        if !may_follow(alphabet.len(), above, count, j) {
+            break Bracket::Wrong(at);
+        }
+        set += single(j);
+        above = j + 1;
+        count += 1;
+        at += 1;
+    };
+    r
+}
+
+// What stands at a place of a line.
+fn read_one(alphabet: &[u8], table: &[u8; 256], sheet: &[u8], at: usize) -> One
+    requires { ⌜ (0 < length (now alphabet)) × (length (now alphabet) ≤ 32) × (at ≤ length (now sheet)) ⌝ }
+    requires { ⌜ TableOf (now alphabet) (now table) ⌝ }
+    ensures { λ r. ⌜ r ≡ oneAt (now (alphabet .entry)) at (drop at (now (sheet .entry))) ⌝ }
+{
+    if at == sheet.len() {
+        return One::Wrong(at);
+    }
+    let b = sheet[at];
+    if b == 10 {
+        return One::End(at + 1);
+    }
+    let k = alphabet.len();
+    let j = look_up(table, b);
+    if j < k {
+        return One::Letter(single(j), at + 1);
+    }
+    if b == b'*' {
+        if 2 <= k {
+            return One::Letter(all(k), at + 1);
+        }
+        return One::Wrong(at);
+    }
+    if b == b'[' {
+        if 3 <= k {
+            return match read_bracket(alphabet, table, sheet, at + 1) {
+                Bracket::After(set, next) => One::Letter(set, next),
+                Bracket::Wrong(place) => One::Wrong(place),
+            };
+        }
+    }
+    One::Wrong(at)
+}
+
+// The first pass: how many letters the line has, and the place after it.
+pub fn count_letters(alphabet: &[u8], table: &[u8; 256], sheet: &[u8], from: usize) -> Line
+    requires { ⌜ (0 < length (now alphabet)) × (length (now alphabet) ≤ 32) × (from ≤ length (now sheet)) ⌝ }
+    requires { ⌜ TableOf (now alphabet) (now table) ⌝ }
+    ensures { λ r. ⌜ r ≡ countedOf (scan (now (alphabet .entry)) out from (drop from (now (sheet .entry)))) ⌝ }
+{
+    let mut at = from;
+    let mut n: usize = 0;
+    let r = loop {
+        match read_one(alphabet, table, sheet, at) {
+            One::Letter(_, next) => {
+                n += 1;
+                at = next;
+            }
+            One::End(next) => {
+                break Line::Counted(n, next);
+            }
+            One::Wrong(place) => {
+                break Line::Wrong(place);
+            }
+        }
+    };
+    r
+}
+
+// The second pass: writes the letters of a right line.
+pub fn put_letters(
+    alphabet: &[u8],
+    table: &[u8; 256],
+    sheet: &[u8],
+    from: usize,
+    list: &mut [u32],
+)
+    requires { ⌜ (0 < length (now alphabet)) × (length (now alphabet) ≤ 32) × (from ≤ length (now sheet)) ⌝ }
+    requires { ⌜ TableOf (now alphabet) (now table) ⌝ }
+    requires { ⌜ Room (scan (now alphabet) out from (drop from (now sheet))) (length (now list)) ⌝ }
+    ensures { λ _. ⌜ now (list .exit) ≡ over (lettersOf (scan (now (alphabet .entry)) out from (drop from (now (sheet .entry))))) (now (list .entry)) ⌝ }
+{
+    let mut at = from;
+    let mut i: usize = 0;
+    loop {
+        match read_one(alphabet, table, sheet, at) {
+            One::Letter(set, next) => {
+                list[i] = set;
+                i += 1;
+                at = next;
+            }
+            One::End(_) => {
+                return;
+            }
+            One::Wrong(_) => {
+                return;
+            }
+        }
+    }
+}

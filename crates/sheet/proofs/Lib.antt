@@ -1,0 +1,3 @@
+pub mod SectionLaws
+pub mod CaseLaws
+pub mod PromiseLaws

@@ -1,0 +1,2 @@
+pub mod ShiftAndLaws
+pub mod Examples

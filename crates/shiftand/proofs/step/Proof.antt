@@ -1,0 +1,54 @@
+-- `shiftand::step` meets its contract: its word step is the rule's. Assumes nothing.
+use borrow.Author.Needs.{needs}
+use mathlib.Core.Path.{_≡_, refl, sym, ap, _∙_}
+use Prim.Native.Nat.{ℕ, _+_, _-_}
+use native.Mathlib.Omega.{arith}
+use lib.ListN.{length, getD}
+use Rattle.word.specs.Word.{stepped, isSet}
+use Rattle.word.proofs.RowLaws.{rows-step}
+use Rattle.shiftand.specs.ShiftAnd.{shiftandTurn}
+use Rattle.shiftand.proofs.step.Statement.{statement}
+use Rattle.shiftand.proofs.step.Tie as tie
+
+mul-advance : tie.Need-mul-advance
+mul-advance c = search needs
+
+shared-slice-read-advance : tie.Need-shared-slice-read-advance
+shared-slice-read-advance c = search needs
+
+advance-requires : tie.Need-advance-requires
+advance-requires c κs = search needs
+
+sub-is-set : tie.Need-sub-is-set
+sub-is-set c = search needs
+
+is-set-requires : tie.Need-is-set-requires
+is-set-requires c κs = search needs
+
+add-t12 : tie.Need-add-t12
+add-t12 c = search needs
+
+-- the state after the step
+advanced : (k : tie.After-advance) →
+    let a = k .before .before .before .before .args in
+    k .advance .result ≡ stepped (a .p .now) (getD (a .t .now) (a .read) 0) (a .word)
+advanced k =
+    let s = k .before .before .before .before in
+    let a = s .args in
+    k .advance .ensures ∙ rows-step 32 (a .p .now) (a .rows .now) (getD (a .t .now) (a .read) 0) (a .word) (s .pre .3) (omega (arith, k .before .shared-slice-known3 .given (a .read)))
+
+returns : tie.Need-returns
+unfolding shiftandTurn
+returns c = rw (c .is-set .ensures, advanced (c .before))
+
+pub step-spec : {M : Type 1} → statement M
+step-spec =
+    tie.close
+    (tie.spec
+    mul-advance
+    shared-slice-read-advance
+    advance-requires
+    sub-is-set
+    is-set-requires
+    add-t12
+    returns)

@@ -1,0 +1,3 @@
+pub mod StateLaws
+pub mod WordLaws
+pub mod RowLaws

@@ -1,0 +1,39 @@
+// The state of the word engines, held in one word of 64 bits.
+use letters::letter::Letter;
+use letters::members::union;
+ghost use mathlib.Core.Path.{_≡_};
+ghost use Prim.Native.Nat.{_-_, _<_};
+ghost use Rattle.letters.specs.Members.{members, unionOf};
+ghost use Rattle.word.specs.Word.{moved, isSet};
+
+// One word step. The bit that falls off the top is no loss: `mask` has no place for it.
+pub fn word_step(d: u64, mask: u64) -> u64
+    ensures { λ r. ⌜ r ≡ moved d mask ⌝ }
+{
+    ((d << 1) | 1) & mask
+}
+
+// The word step at the text letter c, from the rows of the pattern's masks.
+pub fn advance(rows: &[u64; 32], c: u32, d: u64) -> u64
+    ensures { λ r. do ⌜ r ≡ moved d (unionOf (now (rows .entry)) (members (← ⟦Letter::MAX_K⟧ .entry) c)) ⌝ }
+{
+    word_step(d, union(rows, c))
+}
+
+// Whether digit j is set.
+pub fn is_set(d: u64, j: usize) -> bool
+    requires { ⌜ j < 64 ⌝ }
+    ensures { λ r. ⌜ r ≡ isSet j d ⌝ }
+{
+    (d >> j) % 2 == 1
+}
+
+// Where a stretch of m letters that ends before e began; 0 where there is no such stretch.
+pub fn start_of(e: usize, m: usize) -> usize
+    ensures { λ r. ⌜ r ≡ e - m ⌝ }
+{
+    if e < m {
+        return 0;
+    }
+    e - m
+}
