@@ -1,0 +1,11 @@
+pub mod Divisors
+pub mod GcdLaws
+pub mod SetLaws
+pub mod PrimeLaws
+pub mod TableLaws
+pub mod CheckLaws
+pub mod WriteLaws
+pub mod RoundTrip
+pub mod MeetingLaws
+pub mod Examples
+pub mod Unique

@@ -1,0 +1,4 @@
+pub mod Primes
+pub mod Gcd
+pub mod Conversions
+pub mod Meetings

@@ -1,0 +1,111 @@
+// The checks of the conversions and of a meeting: 1, 6, 3, then 5 or 7, then 8; 1, 6, then 7.
+use crate::product::Product;
+use crate::product::first_product;
+use crate::product::is_product;
+use inputs::checks::Text;
+use inputs::checks::any_bad;
+use inputs::checks::first_bad;
+use inputs::refusal::Check;
+use inputs::refusal::Refusal;
+use letters::letter::Letter;
+ghost use mathlib.Core.Path.{_≡_};
+ghost use Prim.Native.Nat.{_≤_};
+ghost use Rattle.products.specs.Conversions.{firstOther, alphabetThen, toVerdict, fromVerdict};
+ghost use Rattle.products.specs.Meetings.{pairVerdict};
+
+fn refused(number: u32, place: usize) -> Check
+    ensures { λ r. ⌜ r ≡ Check.Refused (record { number = number; place = place }) ⌝ }
+{
+    Check::Refused(Refusal { number, place })
+}
+
+// Checks 1 and 6.
+pub(crate) fn check_alphabet(k: u32) -> Check
+    ensures { λ r. do ⌜ r ≡ alphabetThen (← ⟦Letter::MAX_K⟧ .entry) (← ⟦Product::MAX_K⟧ .entry) k Check.Passed ⌝ }
+{
+    if k == 0 {
+        return refused(1, 0);
+    }
+    if Letter::MAX_K < k {
+        return refused(1, 0);
+    }
+    if Product::MAX_K < k {
+        return refused(6, 0);
+    }
+    Check::Passed
+}
+
+// The lowest index of a value that is no product for k, or the length.
+pub(crate) fn first_other(k: u32, values: &[u32]) -> usize
+    requires { ⌜ k ≤ 9 ⌝ }
+    ensures { λ r. ⌜ r ≡ firstOther k (now (values .entry)) ⌝ }
+{
+    let full = first_product(k);
+    let mut i = 0;
+    while i < values.len() {
+        if !is_product(full, values[i]) {
+            return i;
+        }
+        i += 1;
+    }
+    i
+}
+
+// The checks of letters that are to be products, with room for so many.
+pub(crate) fn check_letters(k: u32, letters: &[u32], room: usize) -> Check
+    ensures { λ r. do ⌜ r ≡ toVerdict (← ⟦Letter::MAX_K⟧ .entry) (← ⟦Product::MAX_K⟧ .entry) (← ⟦Text::MAX_N⟧ .entry) k (now (letters .entry)) room ⌝ }
+{
+    let alphabet = check_alphabet(k);
+    if let Check::Refused(r) = alphabet {
+        return Check::Refused(r);
+    }
+    if Text::MAX_N < letters.len() {
+        return refused(3, 0);
+    }
+    if any_bad(k, letters) {
+        return refused(5, first_bad(k, letters));
+    }
+    if room < letters.len() {
+        return refused(8, 0);
+    }
+    Check::Passed
+}
+
+// The checks of products that are to be letters, with room for so many.
+pub(crate) fn check_products(k: u32, products: &[u32], room: usize) -> Check
+    ensures { λ r. do ⌜ r ≡ fromVerdict (← ⟦Letter::MAX_K⟧ .entry) (← ⟦Product::MAX_K⟧ .entry) (← ⟦Text::MAX_N⟧ .entry) k (now (products .entry)) room ⌝ }
+{
+    let alphabet = check_alphabet(k);
+    if let Check::Refused(r) = alphabet {
+        return Check::Refused(r);
+    }
+    if Text::MAX_N < products.len() {
+        return refused(3, 0);
+    }
+    let at = first_other(k, products);
+    if at < products.len() {
+        return refused(7, at);
+    }
+    if room < products.len() {
+        return refused(8, 0);
+    }
+    Check::Passed
+}
+
+// The checks of two products that may meet.
+pub(crate) fn check_pair(k: u32, a: u32, b: u32) -> Check
+    ensures { λ r. do ⌜ r ≡ pairVerdict (← ⟦Letter::MAX_K⟧ .entry) (← ⟦Product::MAX_K⟧ .entry) k a b ⌝ }
+{
+    let alphabet = check_alphabet(k);
+    if let Check::Refused(r) = alphabet {
+        return Check::Refused(r);
+    }
+    let full = first_product(k);
+    if !is_product(full, a) {
+        return refused(7, 0);
+    }
+    if !is_product(full, b) {
+        return refused(7, 1);
+    }
+    Check::Passed
+}
