@@ -1,3 +1,6 @@
 pub mod SectionLaws
 pub mod CaseLaws
 pub mod PromiseLaws
+pub mod AcceptLaws
+pub mod RoundTrip
+pub mod Unique

@@ -1,0 +1,5 @@
+pub mod LineLaws
+pub mod CheckLaws
+pub mod RoundTrip
+pub mod Unique
+pub mod Examples
