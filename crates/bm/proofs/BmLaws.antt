@@ -82,7 +82,7 @@ module _ (P T : List ℕ) (i : ℕ) where
       (λ e. y (eqb-true _ _ e))
       (λ e. let q = eqb-false (endMet P T i) (length P) e in n (omega arith))
 
-  pub by-le : 0 < length P → by ≤ length P
+  by-le : 0 < length P → by ≤ length P
   by-le pos =
       let f = first-le P T i (endMet P T i) in
       end-cases
@@ -95,7 +95,7 @@ module _ (P T : List ℕ) (i : ℕ) where
       (λ e. let z = second-hit P T i (endMet P T i) e in absurd (omega arith))
       (λ l. let z = second-miss P T i (endMet P T i) l in fail-none P T i (length P - 1 - endMet P T i) d (omega arith) a (omega arith))
 
-  -- a start that neither passes over is tested
+  -- a start that the larger passes over is no hit
   pub by-none : (d : ℕ) → 0 < d → d < by → hitAt P T (i + d) ≡ false
   by-none d a b =
       bool-cases (ltb d (firstShift P T i (endMet P T i)))

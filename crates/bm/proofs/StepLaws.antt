@@ -111,11 +111,8 @@ module _ (P T : List ℕ) (i left : ℕ) (pos : 0 < length P) (l : left ≤ leng
       es
 
   -- neither shift is longer than the pattern
-  pub shift-le : (a b : ℕ) → a ≡ firstShift P T i g → b ≡ failShift P T i (left - 1) → max a b ≤ length P
-  shift-le a b ea eb =
-      let x : a ≤ length P = omega (arith, first-le P T i g) in
-      let y : b ≤ length P = omega (arith, fail-le P T i (left - 1)) in
-      max-le a b (length P) x y
-    where
-      max-le : (a b m : ℕ) → a ≤ m → b ≤ m → max a b ≤ m
-      max-le a b m x y = omega arith
+  pub shifts-le : (a b : ℕ) → a ≡ firstShift P T i g → b ≡ failShift P T i (left - 1) → (a ≤ length P) × (b ≤ length P)
+  shifts-le a b ea eb = (omega (arith, first-le P T i g), omega (arith, fail-le P T i (left - 1)))
+
+pub max-le : (r a b m : ℕ) → r ≡ max a b → a ≤ m → b ≤ m → r ≤ m
+max-le r a b m e x y = omega arith

@@ -1,3 +1,5 @@
 pub mod Codes
 pub mod Searches
 pub mod Answered
+pub mod Conversions
+pub mod Sheets

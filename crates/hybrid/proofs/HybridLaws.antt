@@ -1,9 +1,9 @@
 -- Hybrid is sound, so its run finds the hits; and its tests and word steps are bounded. Assumes nothing.
-use mathlib.Core.Path.{_≡_, refl, sym, ap, _∙_}
-use mathlib.Core.Bool.{Bool, true, false, cond}
+use mathlib.Core.Path.{_≡_, refl, sym}
+use mathlib.Core.Bool.{Bool, true, false}
 use mathlib.Core.List.{List, []}
 use mathlib.Core.Logic.{⊎-elim}
-use Prim.Native.Nat.{ℕ, zero, suc, _+_, _-_, _*_, _≤_, _<_}
+use Prim.Native.Nat.{ℕ, suc, _+_, _-_, _*_, _≤_, _<_}
 use native.Mathlib.Nat.{eq-or-lt-of-le}
 use native.Mathlib.Omega.{arith}
 use borrow.Author.Tests.{leb-true, leb-false, lt-leb, eqb-true, eqb-false, eq-eqb, ne-eqb}
@@ -15,10 +15,10 @@ use Rattle.hits.specs.Hits.{within, hitAt, hits, hitsFrom}
 use Rattle.hits.specs.Turns.{Turn, Run, idle}
 use Rattle.hits.proofs.HitLaws.{no-hit, no-hit-past, none-from}
 use Rattle.hits.proofs.RunLaws.{Sound, Fair, run-stop, finds-all, bounded, per-start}
-use Rattle.pattern.specs.Last.{lastIn, afterR}
+use Rattle.pattern.specs.Last.{afterR}
 use Rattle.pattern.proofs.LastLaws.{last-above, r-le}
 use Rattle.word.proofs.WordLaws.{zero-means}
-use Rattle.hybrid.specs.Stretches.{Stretch, stretch}
+use Rattle.hybrid.specs.Stretches.{stretch}
 use Rattle.hybrid.specs.Hybrid.{stretched, shifted, sundayNext, hybridTurn, hybridRun}
 use Rattle.hybrid.proofs.StretchLaws.{waiting, Fine, fine, some-step}
 
@@ -161,10 +161,10 @@ module _ (P T : List ℕ) where
     unfolding hybridRun sound
     hybrid-scan =
         let h = per-start sound (λ (r : Run). r .scan) (λ (t : Turn ℕ). t .scan) refl (λ t r. refl) (λ (i : ℕ). i) 1
-                (λ i y. leb-true _ _ y)
-                (λ i o y. goes-on i (leb-true _ _ y))
-                (λ i o y. omega (arith, one-test i))
-                refl
+        (λ i y. leb-true _ _ y)
+        (λ i o y. goes-on i (leb-true _ _ y))
+        (λ i o y. omega (arith, one-test i))
+        refl
         in
         omega arith
 

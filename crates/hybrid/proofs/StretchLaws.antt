@@ -1,18 +1,17 @@
 -- Word steps from a until the state is 0 or the text ends settle every start that they pass. Assumes nothing.
-use mathlib.Core.Path.{_≡_, refl, sym, ap, _∙_}
-use mathlib.Core.Bool.{Bool, true, false, cond, _&&_}
-use mathlib.Core.List.{List, []}
+use mathlib.Core.Path.{_≡_, sym}
+use mathlib.Core.Bool.{cond}
+use mathlib.Core.List.{List}
 use Prim.Native.Nat.{ℕ, zero, suc, _+_, _-_, _≤_, _<_}
 use native.Mathlib.Omega.{arith}
 use borrow.Author.Tests.{leb-true, leb-false, eqb-true}
 use lib.Dec.{eqb, leb}
 use lib.ListN.{length, getD}
-use Rattle.letters.specs.Members.{keep}
 use Rattle.letters.proofs.Truth.{bool-cases}
-use Rattle.hits.specs.Hits.{hitAt, hitsFrom}
+use Rattle.hits.specs.Hits.{hitsFrom}
 use Rattle.hits.proofs.HitLaws.{none-from, past-from}
 use Rattle.word.specs.State.{Means}
-use Rattle.word.specs.Word.{stepped, isSet}
+use Rattle.word.specs.Word.{stepped}
 use Rattle.word.proofs.WordLaws.{digits, stepped-means, top-hit, zero-dead}
 use Rattle.hybrid.specs.Stretches.{Stretch, ended, stepTo, stretch}
 

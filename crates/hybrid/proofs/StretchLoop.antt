@@ -1,8 +1,8 @@
 -- What the loop of word steps keeps, and the laws that answer its needs. Assumes nothing.
 use mathlib.Core.Path.{_≡_, refl, sym, ap, _∙_}
 use mathlib.Core.Bool.{Bool, true, false, cond}
-use mathlib.Core.List.{List, [], _∷_, _++_, append-assoc, append-nil}
-use Prim.Native.Nat.{ℕ, zero, suc, _+_, _-_, _≤_, _<_}
+use mathlib.Core.List.{List, [], _++_, append-assoc, append-nil}
+use Prim.Native.Nat.{ℕ, suc, _+_, _-_, _≤_, _<_}
 use native.Mathlib.Omega.{arith}
 use borrow.Author.Tests.{eq-eqb, ne-eqb}
 use lib.Dec.{eqb}
@@ -87,7 +87,7 @@ module _ (P T : List ℕ) (a : ℕ) (d : List ℕ) (total : ℕ) where
       step w′ list′ count′ b i l h ew eb ei el ec =
           let u : ahead P T e w ≡ stepTo P (e + 1) w′ (behind P T (e + 1) w′) = (rw ew (ahead-step e w h)) in
           let f : ahead P T e w .found ≡ keep b i [] ++ behind P T (e + 1) w′ .found =
-                  ap (λ (r : Stretch). r .found) u ∙ rw (← eb, ← ei) (keep-front b i (behind P T (e + 1) w′ .found)) in
+          ap (λ (r : Stretch). r .found) u ∙ rw (← eb, ← ei) (keep-front b i (behind P T (e + 1) w′ .found)) in
           let t = tally-keep b i in
           let c = k .counts in
           let s = k .few in

@@ -1,6 +1,6 @@
 // The engine Hybrid (002, figure 1): a scan test of the last letter at each start; Sunday's shift where it fails, word steps where it holds.
 //
-// Departures from the figure: a start whose end is the text's end shifts no more, since no letter stands behind it; and word steps that end with a state of 0 go on at the position after them.
+// A departure from the figures: where the pattern's end is the text's end no letter stands behind it, so none is read and the run ends; figure 5 reads one.
 use hits::work::Work;
 use hits::work::note;
 use inputs::checks::Text;
@@ -33,7 +33,14 @@ struct Turned {
 }
 
 // Where the test at start a holds: word steps from a, with the state cleared, until the state is 0 or the text ends. Hits are noted after `total` others.
-fn steps_from(p: &[u32], rows: &[u64; 32], t: &[u32], a: usize, list: &mut [u32], total: usize) -> Turned
+fn steps_from(
+    p: &[u32],
+    rows: &[u64; 32],
+    t: &[u32],
+    a: usize,
+    list: &mut [u32],
+    total: usize,
+) -> Turned
     requires { ⌜ (0 < length (now p)) × (length (now p) ≤ 64) × (length (now t) ≤ 65536) × (a ≤ length (now t)) × (total ≤ 65537) × MaskTable 32 (now p) (now rows) ⌝ }
     ensures { λ r. ⌜ Turns (stretched (stretch (now (p .entry)) (now (t .entry)) (length (now (t .entry)) - a) a 0)) (now (list .entry)) total r (now (list .exit)) ⌝ }
 {
@@ -80,7 +87,15 @@ fn sunday_next(p: &[u32], lasts: &[u32; 32], t: &[u32], a: usize) -> usize
 }
 
 // A turn at start a. Hits are noted after `total` others.
-fn step(p: &[u32], rows: &[u64; 32], lasts: &[u32; 32], t: &[u32], a: usize, list: &mut [u32], total: usize) -> Turned
+fn step(
+    p: &[u32],
+    rows: &[u64; 32],
+    lasts: &[u32; 32],
+    t: &[u32],
+    a: usize,
+    list: &mut [u32],
+    total: usize,
+) -> Turned
     requires { ⌜ (0 < length (now p)) × (length (now p) ≤ 64) × (length (now t) ≤ 65536) × (a + length (now p) ≤ length (now t)) × (total ≤ 65537) × MaskTable 32 (now p) (now rows) × LastTable 32 (now p) (now lasts) ⌝ }
     ensures { λ r. ⌜ Turns (hybridTurn (now (p .entry)) (now (t .entry)) a) (now (list .entry)) total r (now (list .exit)) ⌝ }
 {

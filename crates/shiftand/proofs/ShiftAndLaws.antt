@@ -1,5 +1,5 @@
 -- ShiftAnd is sound, so its run finds the hits; and it takes n word steps. Assumes nothing.
-use mathlib.Core.Path.{_≡_, refl, sym, ap, _∙_}
+use mathlib.Core.Path.{_≡_, refl, ap, _∙_}
 use mathlib.Core.Bool.{Bool, true, false, _&&_, and-false}
 use mathlib.Core.List.{List, []}
 use Prim.Native.Nat.{ℕ, zero, suc, _+_, _-_, _≤_, _<_}
@@ -11,12 +11,12 @@ use lib.ListN.{length, getD}
 use Rattle.letters.specs.Members.{keep}
 use Rattle.letters.proofs.Truth.{bool-cases, and-true-l, and-true-r}
 use Rattle.hits.specs.Hits.{hitAt, hits, hitsFrom}
-use Rattle.hits.specs.Turns.{Turn, Run, idle, after, run}
+use Rattle.hits.specs.Turns.{Turn, Run, idle, run}
 use Rattle.hits.proofs.RunLaws.{Sound, Fair, run-stop, run-on, finds-all, bounded}
 use Rattle.word.specs.State.{Means}
-use Rattle.word.specs.Word.{stepped, isSet}
+use Rattle.word.specs.Word.{stepped}
 use Rattle.word.proofs.WordLaws.{digits, zero-means, stepped-means, top-hit}
-use Rattle.shiftand.specs.ShiftAnd.{Reading, lettered, shiftandTurn, unread, cleared, shiftandRun}
+use Rattle.shiftand.specs.ShiftAnd.{Reading, shiftandTurn, unread, cleared, shiftandRun}
 
 module _ (P T : List ℕ) where
   pub unread-fits : (s : Reading) → unread P T s ≡ true → length P ≤ length T

@@ -6,16 +6,15 @@ use mathlib.Core.Path.{_≡_, refl, sym, ap, _∙_}
 use mathlib.Core.Bool.{Bool, true, false, _&&_}
 use mathlib.Core.List.{List}
 use Prim.Native.Nat.{ℕ, zero, suc, _+_, _-_, _≤_, _<_, min}
-use native.Mathlib.Nat.{add-zero}
 use native.Mathlib.Omega.{arith}
 use borrow.Author.Tests.{leb-true, leb-false, le-leb, lt-leb}
 use lib.Dec.{leb}
-use lib.ListN.{length, getD}
+use lib.ListN.{getD}
 use Rattle.letters.specs.Letters.{meets}
-use Rattle.letters.proofs.Truth.{bool-cases}
+use Rattle.letters.proofs.Truth.{bool-cases, and-true-l, and-true-r}
 use Rattle.hits.specs.Hits.{met}
 use Rattle.hits.specs.Counts.{tally}
-use Rattle.word.specs.State.{below, Stepped, alive, Means, Marks}
+use Rattle.word.specs.State.{Stepped, alive, Means, Marks}
 
 tally-both : (x y : Bool) → min (tally x) (tally y) ≡ tally (x && y)
 tally-both true true = refl
@@ -23,11 +22,15 @@ tally-both true false = refl
 tally-both false true = refl
 tally-both false false = refl
 
+tally-one : (x : Bool) → tally x ≡ 1 → x ≡ true
+tally-one true e = refl
+tally-one false e = absurd (omega arith)
+
 module _ (P T : List ℕ) (a : ℕ) where
   -- nothing is alive where nothing was read
   alive-none : (j : ℕ) → alive P T a a j ≡ false
   unfolding alive
-  alive-none j = rw (lt-leb (a + suc j) a (omega arith))
+  alive-none j = ap (λ (b : Bool). b && met P T (a - suc j) (suc j)) (lt-leb (a + suc j) a (omega arith))
 
   -- one letter more: the first letter begins a stretch, and each other letter carries one on
   alive-first : (e : ℕ) → a ≤ e → alive P T a (suc e) 0 ≡ meets (getD P 0 0) (getD T e 0)
@@ -56,3 +59,18 @@ module _ (P T : List ℕ) (a : ℕ) where
   step-means e D M D′ l d m s zero = s 0 ∙ rw (m 0, alive-first e l) (tally-both true (meets (getD P 0 0) (getD T e 0)))
   step-means e D M D′ l d m s (suc j) =
       s (suc j) ∙ rw (d j, m (suc j), alive-next e j) (tally-both (alive P T a e j) (meets (getD P (suc j) 0) (getD T e 0)))
+
+  -- the meaning in full: digit j is set exactly if some stretch that began at or after a and ends before e meets the first j + 1 letters
+  module _ (e : ℕ) (D : ℕ → ℕ) (d : Means P T a e D) (j : ℕ) where
+    pub set-began : D j ≡ 1 → (s : ℕ) × (a ≤ s) × (s + suc j ≡ e) × (met P T s (suc j) ≡ true)
+    unfolding alive
+    set-began h =
+        let y : alive P T a e j ≡ true = tally-one (alive P T a e j) (sym (d j) ∙ h) in
+        let l : a + suc j ≤ e = leb-true _ _ (and-true-l (leb (a + suc j) e) _ y) in
+        (e - suc j, omega arith, omega arith, and-true-r (leb (a + suc j) e) _ y)
+
+    pub began-set : (s : ℕ) → a ≤ s → s + suc j ≡ e → met P T s (suc j) ≡ true → D j ≡ 1
+    unfolding alive
+    began-set s l z y =
+        let u : e - suc j ≡ s = omega arith in
+        d j ∙ rw (le-leb (a + suc j) e (omega arith), u, y)

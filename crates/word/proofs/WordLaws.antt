@@ -5,7 +5,7 @@ use mathlib.Core.List.{List, [], _∷_}
 use Prim.Native.Nat.{ℕ, zero, suc, _+_, _-_, _*_, _/_, _%_, _^_, _≤_, _<_, min}
 use native.Mathlib.Nat.{lt-of-lt-of-le, lt-of-le-of-lt, mod-eq-of-lt, mod-mod}
 use native.Mathlib.Omega.{arith}
-use borrow.Author.Tests.{leb-true, leb-false, le-leb, lt-leb}
+use borrow.Author.Tests.{leb-true, le-leb}
 use lib.Bits.{bitAnd, bitOr, and-mod, or-mod, and-le-r, or-shifted}
 use lib.Dec.{eqb, leb}
 use lib.ListN.{length, getD}
@@ -13,7 +13,7 @@ use lib.Pow.{pow-mono}
 use Rattle.letters.specs.Digits.{digit}
 use Rattle.letters.specs.Letters.{meets}
 use Rattle.letters.proofs.Truth.{bool-cases, both-ways}
-use Rattle.letters.proofs.DigitLaws.{digit-lt, digit-zero, digit-low, digit-up, digit-and, digit-ext, below-power}
+use Rattle.letters.proofs.DigitLaws.{digit-zero, digit-low, digit-up, digit-and, digit-ext, below-power}
 use Rattle.letters.proofs.LetterLaws.{meets-none}
 use Rattle.hits.specs.Hits.{met, hitAt}
 use Rattle.hits.specs.Counts.{tally}
@@ -111,8 +111,8 @@ module _ (P T : List ℕ) (a : ℕ) where
         set-alive (length P - 1)
         ∙ ap (λ (k : ℕ). leb (a + k) e && met P T (e - k) k) h
         ∙ bool-cases (leb (a + length P) e)
-          (λ y. let u : a + length P ≤ e = leb-true _ _ y in rw y (sym (hit-is P T (e - length P) (omega arith))))
-          (λ n. rw n)
+        (λ y. let u : a + length P ≤ e = leb-true _ _ y in rw y (sym (hit-is P T (e - length P) (omega arith))))
+        (λ n. rw n)
 
   -- a state of 0: no start from a on is alive
   pub zero-dead : (e i : ℕ) → Means P T a e (digits 0) → a ≤ i → i < e → e ≤ i + length P → hitAt P T i ≡ false

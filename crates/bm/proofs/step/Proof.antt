@@ -7,7 +7,7 @@ use borrow.Author.Needs.{needs}
 use lib.ListN.{length}
 use Rattle.shifts.specs.Singles.{plain}
 use Rattle.bm.proofs.BmLaws.{first-le, fail-le}
-use Rattle.bm.proofs.StepLaws.{turn-none, turn-hit, turn-fail, shift-le}
+use Rattle.bm.proofs.StepLaws.{turn-none, turn-hit, turn-fail, shifts-le, max-le}
 use Rattle.bm.proofs.step.Statement.{statement}
 use Rattle.bm.proofs.step.Tie as tie
 
@@ -81,8 +81,9 @@ add-t19 c =
     let a = s .args in
     let P = a .p .now in
     let e = k .scan-from-end .ensures in
-    let w = shift-le P (a .t .now) (a .i) (k .scan-from-end .result .left) (s .pre .0) (e .0) (e .1) _ _ (f .first-shift .ensures .0) (b .fail-shift2 .ensures P (s .pre .4)) in
-    omega (arith, c .larger .ensures)
+    let w = shifts-le P (a .t .now) (a .i) (k .scan-from-end .result .left) (s .pre .0) (e .0) (e .1) _ _ (f .first-shift .ensures .0) (b .fail-shift2 .ensures P (s .pre .4)) in
+    let r = max-le (c .larger .result) _ _ (length P) (c .larger .ensures) (omega arith) (omega arith) in
+    omega arith
 
 sub-t20 : tie.Need-sub-t20
 sub-t20 c = search needs

@@ -1,6 +1,6 @@
 -- `hybrid::run` meets its contract: the loop keeps `SoFar`. Assumes nothing.
 use Prim.Native.Nat.{ℕ, suc, _+_, _-_, _≤_, _<_}
-use mathlib.Core.Path.{_≡_, refl, sym, ap, _∙_}
+use mathlib.Core.Path.{_≡_, refl, ap}
 use mathlib.Core.Bool.{true}
 use mathlib.Core.List.{List}
 use native.Mathlib.Omega.{arith}
@@ -10,7 +10,7 @@ use lib.ListN.{length}
 use Rattle.hits.specs.Hits.{within}
 use Rattle.hits.specs.declared.work.Work.{Work}
 use Rattle.hits.proofs.LoopLaws.{SoFar, start, pass, kept, total-le, next-scan-le, next-steps-le, end-list, end-work}
-use Rattle.hybrid.specs.Hybrid.{hybridTurn, hybridRun, Turns}
+use Rattle.hybrid.specs.Hybrid.{hybridRun}
 use Rattle.hybrid.specs.declared.Turned.{Turned}
 use Rattle.hybrid.proofs.HybridLaws.{sound, goes-on, stays-near, no-shift, hybrid-scan, hybrid-steps}
 use Rattle.hybrid.proofs.run.Statement.{statement}

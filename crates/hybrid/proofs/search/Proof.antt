@@ -1,6 +1,5 @@
 -- `hybrid::search` meets its contract: what the checks say picks the case. Assumes nothing.
-use Prim.Native.Nat.{_≤_}
-use mathlib.Core.Path.{_≡_, refl, sym, ap, _∙_}
+use mathlib.Core.Path.{sym, _∙_}
 use native.Mathlib.Omega.{arith}
 use borrow.Author.Needs.{needs}
 use Rattle.inputs.proofs.CheckLaws.{sized}

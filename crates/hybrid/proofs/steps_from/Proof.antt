@@ -1,6 +1,6 @@
 -- `hybrid::steps_from` meets its contract: the loop keeps what the state means, and the hits of the steps taken. Assumes nothing.
-use Prim.Native.Nat.{ℕ, _+_, _-_, _≤_, _<_}
-use mathlib.Core.Path.{_≡_, refl, sym, ap, _∙_}
+use Prim.Native.Nat.{ℕ, _+_, _-_, _≤_}
+use mathlib.Core.Path.{_≡_, refl, _∙_}
 use mathlib.Core.List.{List}
 use native.Mathlib.Omega.{arith}
 use borrow.Author.Needs.{needs}
@@ -73,7 +73,7 @@ one-step n list h =
     let a = b .args in
     let c = getD (a .t .now) (l .loop .e) 0 in
     let w : v .advance .result ≡ stepped (a .p .now) c (l .loop .d) =
-            v .advance .ensures ∙ rows-step 32 (a .p .now) (a .rows .now) c (l .loop .d) (b .pre .5) (omega (arith, v .before .shared-slice-known3 .given (l .loop .e))) in
+    v .advance .ensures ∙ rows-step 32 (a .p .now) (a .rows .now) c (l .loop .d) (b .pre .5) (omega (arith, v .before .shared-slice-known3 .given (l .loop .e))) in
     step (a .p .now) (a .t .now) (a .a) (a .list .now) (a .total) (l .loop .e) (l .loop .d) (l .loop .list) (l .loop .count) (l .loop .inv .4)
     (v .advance .result) list (n .note .result) (i .is-set .result) (s .start-of .result) (l .loop .inv .2) (omega arith) w (i .is-set .ensures) (s .start-of .ensures) h (n .note .ensures .0)
 

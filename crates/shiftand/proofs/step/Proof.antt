@@ -1,10 +1,10 @@
 -- `shiftand::step` meets its contract: its word step is the rule's. Assumes nothing.
 use borrow.Author.Needs.{needs}
-use mathlib.Core.Path.{_≡_, refl, sym, ap, _∙_}
-use Prim.Native.Nat.{ℕ, _+_, _-_}
+use mathlib.Core.Path.{_≡_, _∙_}
+use Prim.Native.Nat.{_-_}
 use native.Mathlib.Omega.{arith}
-use lib.ListN.{length, getD}
-use Rattle.word.specs.Word.{stepped, isSet}
+use lib.ListN.{getD}
+use Rattle.word.specs.Word.{stepped}
 use Rattle.word.proofs.RowLaws.{rows-step}
 use Rattle.shiftand.specs.ShiftAnd.{shiftandTurn}
 use Rattle.shiftand.proofs.step.Statement.{statement}

@@ -1,6 +1,6 @@
 -- `word::advance` meets its contract: the step keeps the union of the rows. Assumes nothing.
 use borrow.Author.Needs.{needs}
-use mathlib.Core.Path.{_≡_, ap, _∙_}
+use mathlib.Core.Path.{ap, _∙_}
 use Rattle.word.specs.Word.{moved}
 use Rattle.word.proofs.advance.Statement.{statement}
 use Rattle.word.proofs.advance.Tie as tie

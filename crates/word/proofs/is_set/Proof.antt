@@ -1,6 +1,6 @@
 -- `word::is_set` meets its contract: the shift brings the digit down. Assumes nothing.
 use borrow.Author.Needs.{needs}
-use mathlib.Core.Path.{_≡_, sym, ap}
+use mathlib.Core.Path.{sym, ap}
 use Prim.Native.Nat.{ℕ}
 use lib.Dec.{eqb}
 use Rattle.letters.proofs.DigitLaws.{digit-pow}

@@ -1,0 +1,43 @@
+use borrow.Author.Needs.{needs}
+use native.Mathlib.Omega.{arith}
+use mathlib.Core.Path.{_≡_, refl, sym, ap, _∙_}
+use mathlib.Core.Bool.{Bool, true, false}
+use mathlib.Core.Logic.{⊎-elim}
+use mathlib.Core.List.{List}
+use Prim.Native.Nat.{ℕ, zero, suc, _+_, _-_, _*_, _≤_, _<_, min, max}
+use borrow.Author.Tests.{not-true, not-false}
+use lib.ListN.{length, getD, set}
+use Rattle.breakwarp.proofs.CodeLaws.{read-back}
+use Rattle.breakwarp.proofs.sheets.written.Statement.{statement}
+use Rattle.breakwarp.proofs.sheets.written.Tie as tie
+use Rattle.breakwarp.proofs.sheets.written.Reads as reads
+use Rattle.breakwarp.proofs.sheets.written.Lts as lts
+use Rattle.breakwarp.proofs.codes.counted.Reads as counted-reads
+use Rattle.breakwarp.proofs.codes.refused.Reads as refused-reads
+
+enum-known-w : tie.Need-enum-known-w
+enum-known-w c = search needs
+
+refused-requires : tie.Need-refused-requires
+refused-requires c κs = search needs
+
+enum-known-w-2 : tie.Need-enum-known-w-2
+enum-known-w-2 c = search needs
+
+counted-requires : tie.Need-counted-requires
+counted-requires c κs = rw (c .before .w2 .given .1) at (c .before .before .before .pre)
+
+returns : tie.Need-returns
+returns c =
+    let s = c .before .before in
+    rw (s .w .given .1) (read-back _ (c .refused .ok) ∙ c .refused .ensures)
+
+returns-2 : tie.Need-returns-2
+returns-2 c =
+    let s = c .before .before in
+    rw (s .w2 .given .1) (read-back _ (c .counted .ok) ∙ c .counted .ensures)
+
+pub written-spec : {M : Type 1} → statement M
+written-spec =
+    tie.close
+    (tie.spec enum-known-w refused-requires enum-known-w-2 counted-requires returns returns-2)
