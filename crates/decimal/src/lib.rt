@@ -1,5 +1,6 @@
 // Numbers in decimal digits, there and back.
 pub mod count;
+
 ghost use mathlib.Core.Path.{_≡_};
 ghost use Prim.Native.Nat.{_+_, _%_, _≤_};
 ghost use lib.ListN.{length};

@@ -16,7 +16,6 @@ use Rattle.letters.proofs.DigitLaws.{digit-low, digit-up}
 use Rattle.letters.proofs.LetterLaws.{digit-member, no-member}
 use Rattle.notation.specs.Spelling.{pick}
 
-
 -- a digit is 1 or 0
 pub parity {ℓ} : {R : Type ℓ} (c : ℕ) → (c % 2 ≡ 1 → R) → (c % 2 ≡ 0 → R) → R
 parity c y n = bool-cases (eqb (c % 2) 1) (λ e. y (eqb-true _ _ e)) (λ e. let h = eqb-false (c % 2) 1 e in n (omega arith))

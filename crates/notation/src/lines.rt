@@ -156,13 +156,7 @@ pub fn count_letters(alphabet: &[u8], table: &[u8; 256], sheet: &[u8], from: usi
 }
 
 // The second pass: writes the letters of a right line.
-pub fn put_letters(
-    alphabet: &[u8],
-    table: &[u8; 256],
-    sheet: &[u8],
-    from: usize,
-    list: &mut [u32],
-)
+pub fn put_letters(alphabet: &[u8], table: &[u8; 256], sheet: &[u8], from: usize, list: &mut [u32])
     requires { ⌜ (0 < length (now alphabet)) × (length (now alphabet) ≤ 32) × (from ≤ length (now sheet)) ⌝ }
     requires { ⌜ TableOf (now alphabet) (now table) ⌝ }
     requires { ⌜ Room (scan (now alphabet) out from (drop from (now sheet))) (length (now list)) ⌝ }

@@ -1,6 +1,6 @@
 -- Strings that pass the checks of a search: what they are, and that such strings pass. Assumes nothing.
-use mathlib.Core.Path.{_≡_, refl, sym, _∙_}
-use mathlib.Core.Bool.{Bool, true, false, _||_}
+use mathlib.Core.Path.{_≡_, refl}
+use mathlib.Core.Bool.{_||_}
 use mathlib.Core.List.{List, [], _∷_}
 use Prim.Native.Nat.{ℕ, zero, suc, _^_, _≤_, _<_}
 use native.Mathlib.Omega.{arith}
@@ -11,7 +11,7 @@ use Rattle.letters.proofs.Truth.{bool-cases, or-false-l, or-false-r}
 use Rattle.inputs.specs.Refusals.{bad, firstBad, refuse, verdict}
 use Rattle.inputs.specs.declared.refusal.Check.the-variants.{Passed}
 use Rattle.inputs.proofs.CheckLaws.{passed-by, passed-on}
-use Rattle.notation.specs.Spelling.{Letter, Letters}
+use Rattle.notation.specs.Spelling.{Letters}
 
 -- no bad letter: all are letters
 no-bad : (k : ℕ) (xs : List ℕ) → length xs ≤ firstBad k xs → Letters k xs

@@ -4,3 +4,5 @@ pub mod PromiseLaws
 pub mod AcceptLaws
 pub mod RoundTrip
 pub mod Unique
+pub mod PlaceLaws
+pub mod Examples

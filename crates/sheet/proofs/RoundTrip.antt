@@ -14,15 +14,15 @@ use Rattle.inputs.specs.Refusals.{verdict}
 use Rattle.inputs.specs.declared.refusal.Check.the-variants.{Passed}
 use Rattle.notation.specs.Alphabet.{Alphabet, alphabetAt}
 use Rattle.notation.specs.Spelling.{spell, line, Letters}
-use Rattle.notation.specs.Reader.{out, Read, got, scan}
+use Rattle.notation.specs.Reader.{out, got, scan}
 use Rattle.notation.specs.declared.alphabet.Bytes.the-variants.{After}
 use Rattle.notation.proofs.AlphabetLaws.{alphabet-read, alphabet-listed}
 use Rattle.notation.proofs.ReadLaws.{line-read, read-line}
 use Rattle.sheet.specs.Bytes.{sheetBytes, Accepted, RightSheet}
-use Rattle.sheet.specs.Reader.{Outcome, found, refuse, Section, alphabetSection, letterSection, patternBounds, textBounds, Sections, stringSections, Strings, reading}
+use Rattle.sheet.specs.Reader.{Outcome, found, refuse, Section, alphabetSection, letterSection, patternBounds, textBounds, stringSections, Strings, reading}
 use Rattle.sheet.specs.declared.sections.Bounds.{Bounds}
 use Rattle.sheet.proofs.SectionLaws.{LettersFound, reading-found}
-use Rattle.sheet.proofs.AcceptLaws.{Passing, passing, passes}
+use Rattle.sheet.proofs.AcceptLaws.{passing, passes}
 
 -- past p bytes
 on : (s : List ℕ) (at : ℕ) (p q : List ℕ) (e : ℕ) → drop at s ≡ p ++ q → e ≡ at + length p → drop e s ≡ q

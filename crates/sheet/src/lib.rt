@@ -1,5 +1,6 @@
 // The search sheet: its reader. All is checked before anything is written.
 pub mod sections;
+
 use crate::sections::Both;
 use crate::sections::Found;
 use crate::sections::alphabet_section;
@@ -55,7 +56,10 @@ pub fn read(sheet: &[u8], alphabet: &mut [u8], pattern: &mut [u32], text: &mut [
     ensures promise { λ r. do ⌜ ReadInto (← ⟦Sheet::MAX_BYTES⟧ .entry) (← ⟦Letter::MAX_K⟧ .entry) (← ⟦Pattern::MAX_M⟧ .entry) (← ⟦Text::MAX_N⟧ .entry) (now (sheet .entry)) (record { alphabet = now (alphabet .entry); pattern = now (pattern .entry); text = now (text .entry) }) r (record { alphabet = now (alphabet .exit); pattern = now (pattern .exit); text = now (text .exit) }) ⌝ }
 {
     if Sheet::MAX_BYTES < sheet.len() {
-        return Answer::Refused(Refusal { number: 10, place: 0 });
+        return Answer::Refused(Refusal {
+            number: 10,
+            place: 0,
+        });
     }
     match alphabet_section(sheet, alphabet.len()) {
         Found::Refused(r) => Answer::Refused(r),

@@ -1,5 +1,6 @@
 // The writer of a search sheet: the checks, the length, then the bytes.
 pub mod bytes;
+
 use crate::bytes::put_sheet;
 use crate::bytes::sheet_len;
 use inputs::checks::Text;
@@ -62,13 +63,7 @@ fn fits(len: usize, room: usize) -> Check
 }
 
 // Writes a sheet into the lent slice, or refuses and writes nothing.
-pub fn write(
-    k: u32,
-    alphabet: &[u8],
-    pattern: &[u32],
-    text: &[u32],
-    sheet: &mut [u8],
-) -> Written
+pub fn write(k: u32, alphabet: &[u8], pattern: &[u32], text: &[u32], sheet: &mut [u8]) -> Written
     ensures promise { λ r. do ⌜ WriteInto (← ⟦Sheet::MAX_BYTES⟧ .entry) (← ⟦Letter::MAX_K⟧ .entry) (← ⟦Pattern::MAX_M⟧ .entry) (← ⟦Text::MAX_N⟧ .entry) k (now (alphabet .entry)) (now (pattern .entry)) (now (text .entry)) (now (sheet .entry)) r (now (sheet .exit)) ⌝ }
 {
     match check(k, alphabet, pattern, text) {

@@ -145,8 +145,7 @@ put-letters-requires c κs =
     let l = listed k in
     let v = alpha k in
     let b = both w in
-    let f = spelled w in
-    (
+    let f = spelled w in (
       (omega (arith, sized k, l .some, v .size), omega (arith, sized k, l .few, v .size), omega (arith, f .pattern .within, b .pattern)),
       (w .before .before .before .before .numbers .ensures, room _ _ _ _ _ _ _ (part k) (b .pattern) (f .pattern)),
     )
@@ -158,8 +157,7 @@ put-letters-requires-2 c κs =
     let l = listed k in
     let v = alpha k in
     let b = both w in
-    let f = spelled w in
-    (
+    let f = spelled w in (
       (omega (arith, sized k, l .some, v .size), omega (arith, sized k, l .few, v .size), omega (arith, f .text .within, b .text)),
       (w .before .before .before .before .numbers .ensures, room _ _ _ _ _ _ _ (part k) (b .text) (f .text)),
     )
