@@ -1,4 +1,5 @@
 // The search sheet: its reader. All is checked before anything is written.
+pub mod measure;
 pub mod sections;
 
 use crate::sections::Both;
