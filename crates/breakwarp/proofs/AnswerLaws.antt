@@ -9,7 +9,6 @@ use Rattle.promise.specs.Promised.{Promised}
 use Rattle.inputs.specs.declared.refusal.Check.{Check}
 use Rattle.inputs.specs.declared.refusal.Check.the-variants.{Passed, Refused}
 use Rattle.products.specs.Conversions.{convertedOf}
-use Rattle.products.specs.declared.convert.Converted.{Converted}
 use Rattle.sheet.specs.Bytes.{sheetBytes}
 use Rattle.writer.specs.Writer.{answerOf, writing, checks, sizes, both}
 use Rattle.writer.proofs.CheckLaws.{sizes-passed}

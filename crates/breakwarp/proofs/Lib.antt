@@ -1,3 +1,4 @@
 pub mod CodeLaws
 pub mod CallLaws
 pub mod AnswerLaws
+pub mod ReadLaws

@@ -3,3 +3,4 @@ pub mod Searches
 pub mod Answered
 pub mod Conversions
 pub mod Sheets
+pub mod Readings

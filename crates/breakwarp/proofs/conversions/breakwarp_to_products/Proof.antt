@@ -1,4 +1,5 @@
-use mathlib.Core.Path.{_≡_, _∙_}
+-- `breakwarp_to_products` meets its contract: a shell over one call. Assumes nothing.
+use mathlib.Core.Path.{_∙_}
 use borrow.Author.Needs.{needs}
 use lib.ListN.{length}
 use Rattle.products.specs.Conversions.{toVerdict}
@@ -9,16 +10,10 @@ use Rattle.breakwarp.proofs.CodeLaws.{read-back}
 use Rattle.breakwarp.proofs.AnswerLaws.{told-on, done-small}
 use Rattle.breakwarp.proofs.conversions.breakwarp_to_products.Statement.{statement}
 use Rattle.breakwarp.proofs.conversions.breakwarp_to_products.Tie as tie
-use Rattle.breakwarp.proofs.conversions.breakwarp_to_products.Reads as reads
-use Rattle.breakwarp.proofs.conversions.breakwarp_to_products.Lts as lts
-use Rattle.breakwarp.proofs.conversions.converted.Reads as converted-reads
-use Rattle.products.proofs.convert.to_products.Reads as to-products-reads
 
--- src/conversions.rt:43:15
 to-products-requires : tie.Need-to-products-requires
 to-products-requires c κs = search needs
 
--- src/conversions.rt:43:5
 converted-requires : tie.Need-converted-requires
 converted-requires c κs =
     let s = c .before .before in
@@ -26,11 +21,9 @@ converted-requires c κs =
     rw (s .to-products .ensures .answers) (done-small (toVerdict 32 9 65536 (a .k) (a .from .now) (length (a .to .now))) productOf (a .from .now)
     (λ e. to-accepted 32 9 65536 (a .k) (a .from .now) (length (a .to .now)) e .short))
 
--- src/conversions.rt:39:1
 same-length : tie.Need-same-length
 same-length c = search needs
 
--- src/conversions.rt:39:1
 returns : tie.Need-returns
 returns c =
     let s = c .before .before .before in

@@ -1,19 +1,10 @@
+-- `breakwarp::conversions::converted` meets its contract. Assumes nothing.
 use borrow.Author.Needs.{needs}
-use native.Mathlib.Omega.{arith}
-use mathlib.Core.Path.{_≡_, refl, sym, ap, _∙_}
-use mathlib.Core.Bool.{Bool, true, false}
-use mathlib.Core.Logic.{⊎-elim}
-use mathlib.Core.List.{List}
-use Prim.Native.Nat.{ℕ, zero, suc, _+_, _-_, _*_, _≤_, _<_, min, max}
-use borrow.Author.Tests.{not-true, not-false}
-use lib.ListN.{length, getD, set}
+use mathlib.Core.Path.{_∙_}
+use Prim.Native.Nat.{_-_}
 use Rattle.breakwarp.proofs.CodeLaws.{read-back}
 use Rattle.breakwarp.proofs.conversions.converted.Statement.{statement}
 use Rattle.breakwarp.proofs.conversions.converted.Tie as tie
-use Rattle.breakwarp.proofs.conversions.converted.Reads as reads
-use Rattle.breakwarp.proofs.conversions.converted.Lts as lts
-use Rattle.breakwarp.proofs.codes.counted.Reads as counted-reads
-use Rattle.breakwarp.proofs.codes.refused.Reads as refused-reads
 
 enum-known-c : tie.Need-enum-known-c
 enum-known-c c = search needs
