@@ -1,0 +1,134 @@
+/* Shows that test.c notices what it looks for. Linked with test.c and the library, it stands between them, calls the
+ * library, and then makes the slip that the environment variable BREAKWARP_SLIP asks for as CALL:SLIP, for example
+ * brute:after. slips.sh builds it and tries every slip of every call. */
+#include "breakwarp.h"
+
+#include <errno.h>
+#include <stdlib.h>
+#include <string.h>
+
+static int asked(const char *call, const char *slip)
+{
+    const char *both = getenv("BREAKWARP_SLIP");
+    size_t length = strlen(call);
+    return both != NULL && strncmp(both, call, length) == 0 && both[length] == ':' && strcmp(both + length + 1, slip) == 0;
+}
+
+/* One lent slice that the call may write: its first byte, a cell's size, its cells, and how many the call has written. */
+struct output {
+    void *first;
+    size_t cell, cells, written;
+};
+
+static int64_t slipped(const char *call, int64_t answer, struct output out, const void *input, size_t bytes)
+{
+    unsigned char *first = out.first;
+    if (first != NULL) {
+        if (asked(call, "before"))
+            first[-1] ^= 1;
+        if (asked(call, "after"))
+            first[out.cells * out.cell] ^= 1;
+        if (asked(call, "value") && answer >= 0 && out.written > 0)
+            first[(out.written - 1) * out.cell] ^= 1;
+        if (asked(call, "tail") && answer >= 0 && out.written < out.cells)
+            first[out.written * out.cell] ^= 1;
+        if (asked(call, "refused") && answer < 0 && out.cells > 0)
+            first[0] ^= 1;
+    }
+    if (asked(call, "input") && bytes > 0)
+        ((unsigned char *)(uintptr_t)input)[bytes - 1] ^= 1;
+    if (asked(call, "errno"))
+        errno = 1;
+    return asked(call, "answer") ? answer + 1 : answer;
+}
+
+static size_t least(size_t a, size_t b)
+{
+    return a < b ? a : b;
+}
+
+/* The counts slip as if they were a call of their own, named by the engine and `-work`; so does the text. */
+#define SEARCH(name)                                                                                                   \
+    int64_t __real_breakwarp_##name(uint32_t, const uint32_t *, size_t, const uint32_t *, size_t, uint32_t *, size_t,  \
+                                    uint64_t *, size_t);                                                               \
+    int64_t __wrap_breakwarp_##name(uint32_t, const uint32_t *, size_t, const uint32_t *, size_t, uint32_t *, size_t,  \
+                                    uint64_t *, size_t);                                                               \
+    int64_t __wrap_breakwarp_##name(uint32_t k, const uint32_t *pattern, size_t m, const uint32_t *text, size_t n,     \
+                                    uint32_t *hits, size_t cap, uint64_t *work, size_t nwork)                          \
+    {                                                                                                                  \
+        int64_t answer = __real_breakwarp_##name(k, pattern, m, text, n, hits, cap, work, nwork);                      \
+        struct output list = {hits, sizeof *hits, cap, answer < 0 ? 0 : least((size_t)answer, cap)};                   \
+        struct output counts = {work, sizeof *work, nwork, answer < 0 ? 0 : 3};                                        \
+        slipped(#name "-work", answer, counts, text, n * sizeof *text);                                                \
+        return slipped(#name, answer, list, pattern, m * sizeof *pattern);                                             \
+    }
+
+SEARCH(brute)
+SEARCH(kmp)
+SEARCH(bm)
+SEARCH(sunday)
+SEARCH(shiftand)
+SEARCH(hybrid)
+
+#define CONVERSION(name)                                                                                               \
+    int64_t __real_breakwarp_##name(uint32_t, const uint32_t *, size_t, uint32_t *, size_t);                           \
+    int64_t __wrap_breakwarp_##name(uint32_t, const uint32_t *, size_t, uint32_t *, size_t);                           \
+    int64_t __wrap_breakwarp_##name(uint32_t k, const uint32_t *from, size_t n, uint32_t *to, size_t cap)              \
+    {                                                                                                                  \
+        int64_t answer = __real_breakwarp_##name(k, from, n, to, cap);                                                 \
+        struct output out = {to, sizeof *to, cap, answer < 0 ? 0 : (size_t)answer};                                    \
+        return slipped(#name, answer, out, from, n * sizeof *from);                                                    \
+    }
+
+CONVERSION(to_products)
+CONVERSION(from_products)
+
+int64_t __real_breakwarp_products_meet(uint32_t, uint32_t, uint32_t);
+int64_t __wrap_breakwarp_products_meet(uint32_t, uint32_t, uint32_t);
+int64_t __wrap_breakwarp_products_meet(uint32_t k, uint32_t a, uint32_t b)
+{
+    struct output none = {NULL, 1, 0, 0};
+    return slipped("products_meet", __real_breakwarp_products_meet(k, a, b), none, NULL, 0);
+}
+
+int64_t __real_breakwarp_read_sheet(const uint8_t *, size_t, uint8_t *, size_t, uint32_t *, size_t, uint32_t *, size_t,
+                                    uint64_t *, size_t);
+int64_t __wrap_breakwarp_read_sheet(const uint8_t *, size_t, uint8_t *, size_t, uint32_t *, size_t, uint32_t *, size_t,
+                                    uint64_t *, size_t);
+int64_t __wrap_breakwarp_read_sheet(const uint8_t *sheet, size_t nsheet, uint8_t *alphabet, size_t nalphabet,
+                                    uint32_t *pattern, size_t npattern, uint32_t *text, size_t ntext, uint64_t *sizes,
+                                    size_t nsizes)
+{
+    int64_t answer = __real_breakwarp_read_sheet(sheet, nsheet, alphabet, nalphabet, pattern, npattern, text, ntext,
+                                                 sizes, nsizes);
+    int taken = answer >= 0;
+    struct output a = {alphabet, 1, nalphabet, taken ? (size_t)sizes[0] : 0};
+    struct output p = {pattern, sizeof *pattern, npattern, taken ? (size_t)sizes[1] : 0};
+    struct output t = {text, sizeof *text, ntext, taken ? (size_t)sizes[2] : 0};
+    struct output s = {sizes, sizeof *sizes, nsizes, taken ? 3 : 0};
+    slipped("read_sheet-pattern", answer, p, NULL, 0);
+    slipped("read_sheet-text", answer, t, NULL, 0);
+    slipped("read_sheet-sizes", answer, s, NULL, 0);
+    return slipped("read_sheet", answer, a, sheet, nsheet);
+}
+
+int64_t __real_breakwarp_write_sheet(uint32_t, const uint8_t *, size_t, const uint32_t *, size_t, const uint32_t *,
+                                     size_t, uint8_t *, size_t);
+int64_t __wrap_breakwarp_write_sheet(uint32_t, const uint8_t *, size_t, const uint32_t *, size_t, const uint32_t *,
+                                     size_t, uint8_t *, size_t);
+int64_t __wrap_breakwarp_write_sheet(uint32_t k, const uint8_t *alphabet, size_t nalphabet, const uint32_t *pattern,
+                                     size_t m, const uint32_t *text, size_t n, uint8_t *sheet, size_t cap)
+{
+    int64_t answer = __real_breakwarp_write_sheet(k, alphabet, nalphabet, pattern, m, text, n, sheet, cap);
+    struct output out = {sheet, 1, cap, answer < 0 ? 0 : (size_t)answer};
+    return slipped("write_sheet", answer, out, alphabet, nalphabet);
+}
+
+int64_t __real_breakwarp_report(const uint8_t *, size_t, uint8_t *, size_t);
+int64_t __wrap_breakwarp_report(const uint8_t *, size_t, uint8_t *, size_t);
+int64_t __wrap_breakwarp_report(const uint8_t *sheet, size_t nsheet, uint8_t *report, size_t cap)
+{
+    int64_t answer = __real_breakwarp_report(sheet, nsheet, report, cap);
+    struct output out = {report, 1, cap, answer < 0 ? 0 : (size_t)answer};
+    return slipped("report", answer, out, sheet, nsheet);
+}

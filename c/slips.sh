@@ -1,0 +1,40 @@
+#!/bin/sh
+# Shows that test.c notices every slip of slips.c: sh slips.sh LIBRARY [LINK ARGUMENTS]
+set -eu
+library=$1
+shift
+here=$(dirname "$0")
+work=$(mktemp -d)
+trap 'rm -rf "$work"' EXIT
+
+searches="brute kmp bm sunday shiftand hybrid"
+calls="$searches to_products from_products products_meet read_sheet write_sheet report"
+wraps=
+for call in $calls; do wraps="$wraps -Wl,--wrap=breakwarp_$call"; done
+# shellcheck disable=SC2086
+cc -std=c11 -Wall -Wextra -Werror -o "$work/slips" "$here/test.c" "$here/slips.c" $wraps "$library" "$@"
+
+# Without a slip the checks pass.
+"$work/slips" >"$work/out"
+
+noticed=0
+try() {
+    if BREAKWARP_SLIP="$1:$2" "$work/slips" >"$work/out"; then
+        echo "slips: $1:$2 was not noticed"
+        exit 1
+    fi
+    noticed=$((noticed + 1))
+}
+
+for call in $calls; do
+    try "$call" answer
+    [ "$call" = products_meet ] && continue
+    for slip in value before after tail refused input errno; do try "$call" "$slip"; done
+done
+for call in brute kmp bm sunday shiftand hybrid; do
+    for slip in value before after tail refused input; do try "$call-work" "$slip"; done
+done
+for call in read_sheet-pattern read_sheet-text read_sheet-sizes; do
+    for slip in value before after tail refused; do try "$call" "$slip"; done
+done
+echo "slips: $noticed slips, all noticed"

@@ -1,0 +1,589 @@
+/* Every call of breakwarp.h, from C.
+ *
+ *     cc -std=c11 -Wall -Wextra -Werror -o test test.c libbreakwarp.a && ./test
+ *
+ * Prints `c: N checks` and ends with 0, or says what differs and ends with 1. What is lent for reading stands in
+ * blocks of its exact size, so that valgrind sees a read beside it; what is lent for writing stands between guards
+ * and is looked at as a whole after each call. */
+#include "breakwarp.h"
+
+#include <errno.h>
+#include <stdio.h>
+#include <stdlib.h>
+#include <string.h>
+
+/* The numbers are part of the interface: a screen may have them in its own tables. */
+_Static_assert(BREAKWARP_MAX_K == 32 && BREAKWARP_MAX_M == 64 && BREAKWARP_MAX_N == 65536, "limits of a search");
+_Static_assert(BREAKWARP_MAX_PRODUCT_K == 9 && BREAKWARP_MAX_SHEET == 8192, "limits of products and sheets");
+_Static_assert(BREAKWARP_REFUSED_K == 1 && BREAKWARP_REFUSED_M == 2 && BREAKWARP_REFUSED_N == 3, "refusals 1 to 3");
+_Static_assert(BREAKWARP_REFUSED_PATTERN == 4 && BREAKWARP_REFUSED_TEXT == 5, "refusals 4 and 5");
+_Static_assert(BREAKWARP_REFUSED_PRODUCT_K == 6 && BREAKWARP_REFUSED_PRODUCT == 7, "refusals 6 and 7");
+_Static_assert(BREAKWARP_REFUSED_ROOM == 8 && BREAKWARP_REFUSED_SHEET == 10, "refusals 8 and 10");
+_Static_assert(BREAKWARP_REFUSED_COUNT == 11 && BREAKWARP_REFUSED_ALPHABET == 12, "refusals 11 and 12");
+_Static_assert(BREAKWARP_REFUSED_NOTATION == 13 && BREAKWARP_REFUSED_DIFFERS == 14, "refusals 13 and 14");
+_Static_assert(BREAKWARP_REFUSED_AFTER == 15, "refusal 15");
+
+#define LENGTH(array) (sizeof(array) / sizeof(array)[0])
+
+static unsigned long checks;
+
+/* What is being tried, for the message. */
+static char about[200];
+
+static void same(const char *what, long long seen, long long due)
+{
+    checks++;
+    if (seen != due) {
+        printf("c: %s: %s: seen %lld, expected %lld\n", about, what, seen, due);
+        exit(1);
+    }
+}
+
+/* ---- lent memory ---- */
+
+#define GUARD 64
+
+struct lent {
+    unsigned char *cells; /* guard, the slice, guard */
+    size_t bytes;         /* of the slice */
+};
+
+static unsigned char filler(size_t at)
+{
+    return (unsigned char)(at * 151 + at / 256) ^ 0xa5;
+}
+
+static struct lent lend(size_t bytes)
+{
+    struct lent l = {malloc(bytes + 2 * GUARD), bytes};
+    if (l.cells == NULL) {
+        printf("c: no memory for the test\n");
+        exit(1);
+    }
+    for (size_t at = 0; at < bytes + 2 * GUARD; at++)
+        l.cells[at] = filler(at);
+    return l;
+}
+
+static void *slice(struct lent l)
+{
+    return l.cells + GUARD;
+}
+
+/* The slice begins with `bytes` bytes of `due`; all else is as it was. The block is given back. */
+static void holds(const char *what, struct lent l, const void *due, size_t bytes)
+{
+    checks++;
+    for (size_t at = 0; at < l.bytes + 2 * GUARD; at++) {
+        int inside = at >= GUARD && at - GUARD < bytes;
+        unsigned char want = inside ? ((const unsigned char *)due)[at - GUARD] : filler(at);
+        if (l.cells[at] != want) {
+            printf("c: %s: %s: byte %ld of %zu lent is %d, expected %d%s\n", about, what, (long)at - GUARD, l.bytes,
+                   l.cells[at], want, inside ? "" : " as before the call");
+            exit(1);
+        }
+    }
+    free(l.cells);
+}
+
+/* A block of exactly this size with this content, for a slice that is read; null for length 0. */
+static void *copy(const void *content, size_t bytes)
+{
+    if (bytes == 0)
+        return NULL;
+    void *block = malloc(bytes);
+    if (block == NULL) {
+        printf("c: no memory for the test\n");
+        exit(1);
+    }
+    memcpy(block, content, bytes);
+    return block;
+}
+
+/* What was lent for reading is as it was. */
+static void unchanged(const char *what, void *block, const void *content, size_t bytes)
+{
+    checks++;
+    if (bytes != 0 && memcmp(block, content, bytes) != 0) {
+        printf("c: %s: %s was changed\n", about, what);
+        exit(1);
+    }
+    free(block);
+}
+
+/* ---- searches ---- */
+
+typedef int64_t search(uint32_t k, const uint32_t *pattern, size_t m, const uint32_t *text, size_t n, uint32_t *hits,
+                       size_t cap, uint64_t *work, size_t nwork);
+
+static const struct {
+    const char *name;
+    search *call;
+} engines[] = {
+    {"brute", breakwarp_brute},   {"kmp", breakwarp_kmp},           {"bm", breakwarp_bm},
+    {"sunday", breakwarp_sunday}, {"shiftand", breakwarp_shiftand}, {"hybrid", breakwarp_hybrid},
+};
+
+#define ENGINES LENGTH(engines)
+
+/* One search. `hits` has `answer` starts if the answer is not negative; `work` may be null if the counts do not
+ * matter or nothing may be written. */
+static void try_search(size_t engine, uint32_t k, const uint32_t *p, size_t m, const uint32_t *t, size_t n, size_t cap,
+                       size_t nwork, int64_t answer, const uint32_t *hits, const uint64_t *work)
+{
+    snprintf(about, sizeof about, "%s, k %u, m %zu, n %zu, list of %zu", engines[engine].name, (unsigned)k, m, n, cap);
+    uint32_t *pattern = copy(p, m * sizeof *p);
+    uint32_t *text = copy(t, n * sizeof *t);
+    struct lent list = lend(cap * sizeof *hits);
+    struct lent counts = lend(nwork * sizeof *work);
+    errno = 77;
+    int64_t seen = engines[engine].call(k, pattern, m, text, n, slice(list), cap, slice(counts), nwork);
+    same("answer", seen, answer);
+    same("errno", errno, 77);
+    size_t written = answer < 0 ? 0 : (size_t)answer < cap ? (size_t)answer : cap;
+    holds("hits", list, hits, written * sizeof *hits);
+    if (answer >= 0 && work == NULL) {
+        /* The counts are written, whatever they are: look at the rest only. */
+        uint64_t three[3];
+        memcpy(three, slice(counts), sizeof three);
+        holds("counts", counts, three, sizeof three);
+    } else {
+        holds("counts", counts, work, answer < 0 ? 0 : 3 * sizeof *work);
+    }
+    unchanged("pattern", pattern, p, m * sizeof *p);
+    unchanged("text", text, t, n * sizeof *t);
+}
+
+static const uint32_t anna[] = {1, 4, 4, 1};
+static const uint32_t page[] = {1, 4, 4, 1, 4, 4, 3, 4, 1, 4, 4, 5};
+static const uint32_t page_hits[] = {0, 3, 8};
+
+static void worked_search(void)
+{
+    static const uint64_t work[ENGINES][3] = {{20, 0, 0}, {13, 4, 0}, {14, 3, 0}, {15, 0, 0}, {0, 0, 12}, {1, 0, 12}};
+    for (size_t e = 0; e < ENGINES; e++)
+        for (size_t cap = 0; cap <= 5; cap++)
+            for (size_t nwork = 3; nwork <= 5; nwork++)
+                try_search(e, 3, anna, 4, page, 12, cap, nwork, 3, page_hits, work[e]);
+}
+
+static void small_searches(void)
+{
+    static const uint32_t aan[] = {1, 1, 4}, doubt[] = {1, 1, 5, 4}, an[] = {1, 4}, eeean[] = {2, 2, 2, 1, 4};
+    static const uint32_t all[] = {7}, e_[] = {2}, aaa[] = {1, 1, 1}, from0[] = {0, 1, 2}, at3[] = {3};
+    static const uint64_t none[3] = {0, 0, 0}, brute6[] = {6, 0, 0}, kmp42[] = {4, 2, 0}, hybrid22[] = {2, 0, 2};
+    static const uint64_t brute1[] = {1, 0, 0};
+    try_search(0, 3, aan, 3, doubt, 4, 9, 3, 2, from0, brute6);
+    try_search(1, 3, aan, 3, doubt, 4, 9, 3, 2, from0, kmp42);
+    try_search(5, 3, an, 2, eeean, 5, 9, 3, 1, at3, hybrid22);
+    try_search(0, 3, e_, 1, aaa, 1, 9, 3, 0, NULL, brute1);
+    for (size_t e = 0; e < ENGINES; e++) {
+        try_search(e, 3, aan, 3, doubt, 4, 9, 3, 2, from0, NULL);
+        try_search(e, 3, an, 2, eeean, 5, 9, 3, 1, at3, NULL);
+        try_search(e, 3, all, 1, all, 1, 9, 3, 1, from0, NULL);
+        try_search(e, 3, e_, 1, aaa, 1, 9, 3, 0, NULL, NULL);
+        try_search(e, 3, an, 2, aaa, 1, 9, 3, 0, NULL, none);
+        try_search(e, 3, an, 2, NULL, 0, 9, 3, 0, NULL, none);
+        try_search(e, 3, aaa, 1, aaa, 3, 1, 3, 3, from0, NULL);
+    }
+}
+
+static void search_refusals(void)
+{
+    static const uint32_t bad[] = {1, 2, 8}, empty[] = {1, 0}, good[] = {1, 2, 4};
+    static const struct {
+        uint32_t k;
+        const uint32_t *p;
+        size_t m;
+        const uint32_t *t;
+        size_t n, nwork;
+        int refusal;
+    } rows[] = {
+        {0, good, 1, good, 3, 3, BREAKWARP_REFUSED_K},
+        {33, good, 1, good, 3, 3, BREAKWARP_REFUSED_K},
+        {UINT32_MAX, NULL, 0, bad, 3, 0, BREAKWARP_REFUSED_K},
+        {3, NULL, 0, good, 3, 3, BREAKWARP_REFUSED_M},
+        {3, NULL, 0, bad, 3, 0, BREAKWARP_REFUSED_M},
+        {3, bad, 3, good, 3, 3, BREAKWARP_REFUSED_PATTERN},
+        {3, empty, 2, good, 3, 3, BREAKWARP_REFUSED_PATTERN},
+        {3, empty, 2, bad, 3, 2, BREAKWARP_REFUSED_PATTERN},
+        {3, good, 1, bad, 3, 3, BREAKWARP_REFUSED_TEXT},
+        {3, good, 1, empty, 2, 0, BREAKWARP_REFUSED_TEXT},
+        {2, good, 1, good, 3, 3, BREAKWARP_REFUSED_TEXT},
+        {3, good, 1, good, 3, 2, BREAKWARP_REFUSED_ROOM},
+        {3, good, 1, good, 3, 0, BREAKWARP_REFUSED_ROOM},
+    };
+    for (size_t e = 0; e < ENGINES; e++)
+        for (size_t r = 0; r < LENGTH(rows); r++)
+            try_search(e, rows[r].k, rows[r].p, rows[r].m, rows[r].t, rows[r].n, 5, rows[r].nwork, -rows[r].refusal,
+                       NULL, NULL);
+}
+
+/* The largest text, the longest pattern, the largest alphabet, and one more of each. */
+static void search_limits(void)
+{
+    uint32_t *text = malloc((BREAKWARP_MAX_N + 1) * sizeof *text);
+    uint32_t *hits = malloc(BREAKWARP_MAX_N * sizeof *hits);
+    uint32_t pattern[BREAKWARP_MAX_M + 1];
+    if (text == NULL || hits == NULL) {
+        printf("c: no memory for the test\n");
+        exit(1);
+    }
+    for (size_t q = 0; q <= BREAKWARP_MAX_N; q++)
+        text[q] = UINT32_C(1) << 31;
+    for (size_t j = 0; j <= BREAKWARP_MAX_M; j++)
+        pattern[j] = UINT32_C(1) << 31;
+    for (size_t i = 0; i < BREAKWARP_MAX_N; i++)
+        hits[i] = (uint32_t)i;
+    for (size_t e = 0; e < ENGINES; e++) {
+        try_search(e, 32, pattern, 64, text, 65536, 65536, 3, 65473, hits, NULL);
+        try_search(e, 32, pattern, 1, text, 65536, 65535, 3, 65536, hits, NULL);
+        try_search(e, 32, pattern, 64, text, 65537, 4, 3, -BREAKWARP_REFUSED_N, NULL, NULL);
+        try_search(e, 32, pattern, 65, text, 65537, 4, 3, -BREAKWARP_REFUSED_M, NULL, NULL);
+        try_search(e, 31, pattern, 64, text, 65536, 4, 3, -BREAKWARP_REFUSED_PATTERN, NULL, NULL);
+        try_search(e, 33, pattern, 65, text, 65537, 4, 3, -BREAKWARP_REFUSED_K, NULL, NULL);
+    }
+    free(text);
+    free(hits);
+}
+
+/* Slices of length 0 with null pointers. */
+static void null_searches(void)
+{
+    static const uint32_t a[] = {1};
+    for (size_t e = 0; e < ENGINES; e++) {
+        uint64_t work[3] = {9, 9, 9};
+        snprintf(about, sizeof about, "%s with null pointers", engines[e].name);
+        same("no text, no list", engines[e].call(3, a, 1, NULL, 0, NULL, 0, work, 3), 0);
+        same("scan tests", (long long)work[0], 0);
+        same("shift tests", (long long)work[1], 0);
+        same("word steps", (long long)work[2], 0);
+        same("no list", engines[e].call(3, a, 1, a, 1, NULL, 0, work, 3), 1);
+        same("no counts", engines[e].call(3, a, 1, a, 1, NULL, 0, NULL, 0), -BREAKWARP_REFUSED_ROOM);
+        same("no pattern", engines[e].call(3, NULL, 0, NULL, 0, NULL, 0, NULL, 0), -BREAKWARP_REFUSED_M);
+        same("no alphabet", engines[e].call(0, NULL, 0, NULL, 0, NULL, 0, NULL, 0), -BREAKWARP_REFUSED_K);
+    }
+}
+
+/* ---- products ---- */
+
+typedef int64_t convert(uint32_t k, const uint32_t *from, size_t n, uint32_t *to, size_t cap);
+
+static void try_convert(const char *name, convert *call, uint32_t k, const uint32_t *from, size_t n, size_t cap,
+                        int64_t answer, const uint32_t *to)
+{
+    snprintf(about, sizeof about, "%s, k %u, n %zu, room for %zu", name, (unsigned)k, n, cap);
+    uint32_t *input = copy(from, n * sizeof *from);
+    struct lent output = lend(cap * sizeof *to);
+    errno = 77;
+    same("answer", call(k, input, n, slice(output), cap), answer);
+    same("errno", errno, 77);
+    holds("output", output, to, answer < 0 ? 0 : (size_t)answer * sizeof *to);
+    unchanged("input", input, from, n * sizeof *from);
+}
+
+#define TO(...) try_convert("to_products", breakwarp_to_products, __VA_ARGS__)
+#define FROM(...) try_convert("from_products", breakwarp_from_products, __VA_ARGS__)
+
+static void conversions(void)
+{
+    static const uint32_t letters[] = {3, 4, 7}, products[] = {6, 5, 30}, nine[] = {0x1ff}, most[] = {223092870};
+    static const uint32_t none[] = {0, 1, 4, 7}, bad[] = {1, 8}, empty[] = {0};
+    for (size_t cap = 3; cap <= 5; cap++) {
+        TO(3, letters, 3, cap, 3, products);
+        FROM(3, products, 3, cap, 3, letters);
+    }
+    TO(9, nine, 1, 1, 1, most);
+    FROM(9, most, 1, 1, 1, nine);
+    for (size_t cap = 0; cap < 3; cap++) {
+        TO(3, letters, 3, cap, -BREAKWARP_REFUSED_ROOM, NULL);
+        FROM(3, products, 3, cap, -BREAKWARP_REFUSED_ROOM, NULL);
+    }
+    for (size_t at = 0; at < LENGTH(none); at++)
+        FROM(3, none + at, 1, 1, -BREAKWARP_REFUSED_PRODUCT, NULL);
+    FROM(8, most, 1, 0, -BREAKWARP_REFUSED_PRODUCT, NULL);
+    TO(3, bad, 2, 1, -BREAKWARP_REFUSED_TEXT, NULL);
+    TO(3, empty, 1, 1, -BREAKWARP_REFUSED_TEXT, NULL);
+    for (uint32_t k = 10; k <= 32; k++) {
+        TO(k, empty, 1, 0, -BREAKWARP_REFUSED_PRODUCT_K, NULL);
+        FROM(k, empty, 1, 0, -BREAKWARP_REFUSED_PRODUCT_K, NULL);
+    }
+    TO(0, empty, 1, 0, -BREAKWARP_REFUSED_K, NULL);
+    FROM(0, empty, 1, 0, -BREAKWARP_REFUSED_K, NULL);
+    TO(33, empty, 1, 0, -BREAKWARP_REFUSED_K, NULL);
+    FROM(33, empty, 1, 0, -BREAKWARP_REFUSED_K, NULL);
+    TO(3, NULL, 0, 4, 0, NULL);
+    FROM(3, NULL, 0, 4, 0, NULL);
+    snprintf(about, sizeof about, "conversions with null pointers");
+    same("to_products", breakwarp_to_products(3, NULL, 0, NULL, 0), 0);
+    same("from_products", breakwarp_from_products(3, NULL, 0, NULL, 0), 0);
+}
+
+static void long_conversions(void)
+{
+    size_t n = BREAKWARP_MAX_N + 1;
+    uint32_t *letters = malloc(n * sizeof *letters), *products = malloc(n * sizeof *products);
+    if (letters == NULL || products == NULL) {
+        printf("c: no memory for the test\n");
+        exit(1);
+    }
+    for (size_t at = 0; at < n; at++) {
+        letters[at] = at % 2 ? 2 : 5;
+        products[at] = at % 2 ? 3 : 10;
+    }
+    TO(3, letters, n - 1, n, (int64_t)n - 1, products);
+    FROM(3, products, n - 1, n, (int64_t)n - 1, letters);
+    TO(3, letters, n, n, -BREAKWARP_REFUSED_N, NULL);
+    FROM(3, products, n, n, -BREAKWARP_REFUSED_N, NULL);
+    letters[n - 2] = 0;
+    products[n - 2] = 9;
+    TO(3, letters, n - 1, n, -BREAKWARP_REFUSED_TEXT, NULL);
+    FROM(3, products, n - 1, n, -BREAKWARP_REFUSED_PRODUCT, NULL);
+    free(letters);
+    free(products);
+}
+
+static void meetings(void)
+{
+    snprintf(about, sizeof about, "products_meet");
+    same("6 and 10", breakwarp_products_meet(3, 6, 10), 1);
+    same("10 and 6", breakwarp_products_meet(3, 10, 6), 1);
+    same("6 and 5", breakwarp_products_meet(3, 6, 5), 0);
+    same("30 and 30", breakwarp_products_meet(3, 30, 30), 1);
+    same("all nine and 23", breakwarp_products_meet(9, 223092870, 23), 1);
+    same("0 and 6", breakwarp_products_meet(3, 0, 6), -BREAKWARP_REFUSED_PRODUCT);
+    same("6 and 7", breakwarp_products_meet(3, 6, 7), -BREAKWARP_REFUSED_PRODUCT);
+    same("1 and 1", breakwarp_products_meet(3, 1, 1), -BREAKWARP_REFUSED_PRODUCT);
+    same("k 10", breakwarp_products_meet(10, 0, 0), -BREAKWARP_REFUSED_PRODUCT_K);
+    same("k 32", breakwarp_products_meet(32, 6, 6), -BREAKWARP_REFUSED_PRODUCT_K);
+    same("k 0", breakwarp_products_meet(0, 6, 6), -BREAKWARP_REFUSED_K);
+    same("k 33", breakwarp_products_meet(33, 0, 0), -BREAKWARP_REFUSED_K);
+}
+
+/* ---- sheets ---- */
+
+static const char worked[] = "3\naen\n4\nanna\n12\nannann[ae]nann[an]\n";
+static const char worked_report[] = "hits 3\n0\n3\n8\nbrute 20 0 0\nkmp 13 4 0\nbm 14 3 0\nsunday 15 0 0\n"
+                                    "shiftand 0 0 12\nhybrid 1 0 12\n";
+
+/* Reads a sheet; one that is taken must be the worked one. */
+static void try_read(const char *bytes, size_t length, size_t nalphabet, size_t npattern, size_t ntext, size_t nsizes,
+                     int64_t answer)
+{
+    static const uint64_t sizes[3] = {3, 4, 12};
+    snprintf(about, sizeof about, "read_sheet of %zu bytes beginning %.20s into %zu, %zu, %zu, %zu", length,
+             length == 0 ? "" : bytes, nalphabet, npattern, ntext, nsizes);
+    uint8_t *sheet = copy(bytes, length);
+    struct lent a = lend(nalphabet), p = lend(npattern * sizeof *anna), t = lend(ntext * sizeof *page);
+    struct lent s = lend(nsizes * sizeof *sizes);
+    errno = 77;
+    same("answer",
+         breakwarp_read_sheet(sheet, length, slice(a), nalphabet, slice(p), npattern, slice(t), ntext, slice(s), nsizes),
+         answer);
+    same("errno", errno, 77);
+    holds("alphabet", a, "aen", answer < 0 ? 0 : 3);
+    holds("pattern", p, anna, answer < 0 ? 0 : sizeof anna);
+    holds("text", t, page, answer < 0 ? 0 : sizeof page);
+    holds("sizes", s, sizes, answer < 0 ? 0 : sizeof sizes);
+    unchanged("sheet", sheet, bytes, length);
+}
+
+static void readings(void)
+{
+    size_t length = strlen(worked);
+    try_read(worked, length, 3, 4, 12, 3, 0);
+    try_read(worked, length, 32, 64, 100, 4, 0);
+    try_read(worked, length, 2, 4, 12, 3, -BREAKWARP_REFUSED_ROOM);
+    try_read(worked, length, 3, 3, 12, 3, -BREAKWARP_REFUSED_ROOM);
+    try_read(worked, length, 3, 4, 11, 3, -BREAKWARP_REFUSED_ROOM);
+    try_read(worked, length, 3, 4, 12, 2, -BREAKWARP_REFUSED_ROOM);
+    try_read(worked, length, 0, 0, 0, 0, -BREAKWARP_REFUSED_ROOM);
+    /* A sheet that ends too soon: in a count, in the alphabet, in the letters. */
+    for (size_t end = 0; end < length; end++) {
+        int refusal = end < 2    ? BREAKWARP_REFUSED_COUNT
+                      : end < 6  ? BREAKWARP_REFUSED_ALPHABET
+                      : end < 8  ? BREAKWARP_REFUSED_COUNT
+                      : end < 13 ? BREAKWARP_REFUSED_NOTATION
+                      : end < 16 ? BREAKWARP_REFUSED_COUNT
+                                 : BREAKWARP_REFUSED_NOTATION;
+        try_read(worked, end, 3, 4, 12, 3, -refusal);
+    }
+    snprintf(about, sizeof about, "read_sheet with null pointers");
+    same("no sheet", breakwarp_read_sheet(NULL, 0, NULL, 0, NULL, 0, NULL, 0, NULL, 0), -BREAKWARP_REFUSED_COUNT);
+    uint8_t alphabet[1];
+    uint32_t letter[1];
+    uint64_t sizes[3];
+    const char *bare = "1\na\n1\na\n0\n\n";
+    same("no text",
+         breakwarp_read_sheet((const uint8_t *)bare, strlen(bare), alphabet, 1, letter, 1, NULL, 0, sizes, 3), 0);
+    same("k", (long long)sizes[0], 1);
+    same("m", (long long)sizes[1], 1);
+    same("n", (long long)sizes[2], 0);
+    same("a", alphabet[0], 'a');
+    same("its letter", letter[0], 1);
+}
+
+/* Wrong sheets, each with its refusal. */
+static const struct {
+    const char *sheet;
+    int refusal;
+} wrong[] = {
+    {"", BREAKWARP_REFUSED_COUNT},
+    {"03\naen\n1\na\n1\na\n", BREAKWARP_REFUSED_COUNT},
+    {"3\r\naen\r\n1\r\na\r\n1\r\na\r\n", BREAKWARP_REFUSED_COUNT},
+    {"0\n\n1\na\n1\na\n", BREAKWARP_REFUSED_K},
+    {"33\naen\n1\na\n1\na\n", BREAKWARP_REFUSED_K},
+    {"3\naea\n1\na\n1\na\n", BREAKWARP_REFUSED_ALPHABET},
+    {"3\naen]\n1\na\n1\na\n", BREAKWARP_REFUSED_ALPHABET},
+    {"3\naen\n0\n\n1\na\n", BREAKWARP_REFUSED_M},
+    {"3\naen\n65\na\n1\na\n", BREAKWARP_REFUSED_M},
+    {"3\naen\n1\na\n65537\na\n", BREAKWARP_REFUSED_N},
+    {"3\naen\n1\na\n100000\na\n", BREAKWARP_REFUSED_COUNT},
+    {"3\naen\n1\n[ea]\n1\na\n", BREAKWARP_REFUSED_NOTATION},
+    {"3\naen\n1\na\n1\n[a]\n", BREAKWARP_REFUSED_NOTATION},
+    {"3\naen\n1\na\n1\n[aen]\n", BREAKWARP_REFUSED_NOTATION},
+    {"2\nae\n1\na\n1\n[ae]\n", BREAKWARP_REFUSED_NOTATION},
+    {"1\na\n1\na\n1\n*\n", BREAKWARP_REFUSED_NOTATION},
+    {"3\naen\n2\na\n1\na\n", BREAKWARP_REFUSED_DIFFERS},
+    {"3\naen\n1\na\n65536\na\n", BREAKWARP_REFUSED_DIFFERS},
+    {"3\naen\n1\na\n1\na\n\n", BREAKWARP_REFUSED_AFTER},
+};
+
+static void try_report(const char *bytes, size_t length, size_t cap, int64_t answer, const char *due)
+{
+    snprintf(about, sizeof about, "report of a sheet of %zu bytes beginning %.20s into %zu", length,
+             length == 0 ? "" : bytes, cap);
+    uint8_t *sheet = copy(bytes, length);
+    struct lent report = lend(cap);
+    errno = 77;
+    same("answer", breakwarp_report(sheet, length, slice(report), cap), answer);
+    same("errno", errno, 77);
+    holds("report", report, due, answer < 0 ? 0 : (size_t)answer);
+    unchanged("sheet", sheet, bytes, length);
+}
+
+static void refused_sheets(void)
+{
+    for (size_t w = 0; w < LENGTH(wrong); w++) {
+        try_read(wrong[w].sheet, strlen(wrong[w].sheet), 33, 65, 9, 3, -wrong[w].refusal);
+        try_report(wrong[w].sheet, strlen(wrong[w].sheet), 500, -wrong[w].refusal, NULL);
+        try_report(wrong[w].sheet, strlen(wrong[w].sheet), 0, -wrong[w].refusal, NULL);
+    }
+    static char large[BREAKWARP_MAX_SHEET + 1];
+    memset(large, 'a', sizeof large);
+    try_read(large, sizeof large, 3, 4, 12, 3, -BREAKWARP_REFUSED_SHEET);
+    try_report(large, sizeof large, 500, -BREAKWARP_REFUSED_SHEET, NULL);
+    try_read(large, sizeof large - 1, 3, 4, 12, 3, -BREAKWARP_REFUSED_COUNT);
+    try_report(large, sizeof large - 1, 500, -BREAKWARP_REFUSED_COUNT, NULL);
+}
+
+static void reports(void)
+{
+    size_t length = strlen(worked), needed = strlen(worked_report);
+    for (size_t cap = 0; cap <= needed + 1; cap++)
+        try_report(worked, length, cap, cap < needed ? -BREAKWARP_REFUSED_ROOM : (int64_t)needed, worked_report);
+    try_report(worked, length, BREAKWARP_MAX_REPORT, (int64_t)needed, worked_report);
+    snprintf(about, sizeof about, "report with null pointers");
+    same("no sheet", breakwarp_report(NULL, 0, NULL, 0), -BREAKWARP_REFUSED_COUNT);
+    same("no room", breakwarp_report((const uint8_t *)worked, length, NULL, 0), -BREAKWARP_REFUSED_ROOM);
+}
+
+/* The sheet with the most hits: a hit at every letter, 8,192 bytes. Its report fits the header's bound. */
+static void longest_report(void)
+{
+    static char sheet[BREAKWARP_MAX_SHEET];
+    static char due[BREAKWARP_MAX_REPORT + 1];
+    int n = BREAKWARP_MAX_SHEET - 14;
+    int at = snprintf(sheet, sizeof sheet, "1\na\n1\na\n%d\n", n);
+    memset(sheet + at, 'a', sizeof sheet - (size_t)at);
+    sheet[sizeof sheet - 1] = '\n';
+    size_t length = (size_t)snprintf(due, sizeof due, "hits %d\n", n);
+    for (int start = 0; start < n; start++)
+        length += (size_t)snprintf(due + length, sizeof due - length, "%d\n", start);
+    /* One test for each start, or one step for each letter; a single letter costs no shift test. */
+    length += (size_t)snprintf(due + length, sizeof due - length,
+                               "brute %d 0 0\nkmp %d 0 0\nbm %d 0 0\nsunday %d 0 0\nshiftand 0 0 %d\nhybrid 1 0 %d\n", n,
+                               n, n, n, n, n);
+    try_report(sheet, sizeof sheet, length - 1, -BREAKWARP_REFUSED_ROOM, NULL);
+    try_report(sheet, sizeof sheet, length, (int64_t)length, due);
+    try_report(sheet, sizeof sheet, BREAKWARP_MAX_REPORT, (int64_t)length, due);
+}
+
+static void try_write(uint32_t k, const char *alphabet, size_t nalphabet, const uint32_t *p, size_t m,
+                      const uint32_t *t, size_t n, size_t cap, int64_t answer, const char *due)
+{
+    snprintf(about, sizeof about, "write_sheet, k %u, alphabet of %zu, m %zu, n %zu, room for %zu", (unsigned)k,
+             nalphabet, m, n, cap);
+    uint8_t *bytes = copy(alphabet, nalphabet);
+    uint32_t *pattern = copy(p, m * sizeof *p), *text = copy(t, n * sizeof *t);
+    struct lent sheet = lend(cap);
+    errno = 77;
+    same("answer", breakwarp_write_sheet(k, bytes, nalphabet, pattern, m, text, n, slice(sheet), cap), answer);
+    same("errno", errno, 77);
+    holds("sheet", sheet, due, answer < 0 ? 0 : (size_t)answer);
+    unchanged("alphabet", bytes, alphabet, nalphabet);
+    unchanged("pattern", pattern, p, m * sizeof *p);
+    unchanged("text", text, t, n * sizeof *t);
+}
+
+static void writings(void)
+{
+    static const uint32_t bad[] = {1, 8}, a[] = {1};
+    size_t needed = strlen(worked);
+    for (size_t cap = 0; cap <= needed + 1; cap++)
+        try_write(3, "aen", 3, anna, 4, page, 12, cap, cap < needed ? -BREAKWARP_REFUSED_ROOM : (int64_t)needed, worked);
+    try_write(1, "a", 1, a, 1, NULL, 0, 20, 11, "1\na\n1\na\n0\n\n");
+    try_write(0, "", 0, NULL, 0, bad, 2, 0, -BREAKWARP_REFUSED_K, NULL);
+    try_write(33, "aen", 3, anna, 4, page, 12, 99, -BREAKWARP_REFUSED_K, NULL);
+    try_write(3, "ae", 2, NULL, 0, bad, 2, 0, -BREAKWARP_REFUSED_ALPHABET, NULL);
+    try_write(3, "aenx", 4, anna, 4, page, 12, 99, -BREAKWARP_REFUSED_ALPHABET, NULL);
+    try_write(3, "aea", 3, anna, 4, page, 12, 99, -BREAKWARP_REFUSED_ALPHABET, NULL);
+    try_write(3, "a*n", 3, anna, 4, page, 12, 99, -BREAKWARP_REFUSED_ALPHABET, NULL);
+    try_write(3, "a\nn", 3, anna, 4, page, 12, 99, -BREAKWARP_REFUSED_ALPHABET, NULL);
+    try_write(3, "aen", 3, NULL, 0, bad, 2, 0, -BREAKWARP_REFUSED_M, NULL);
+    try_write(3, "aen", 3, bad, 2, bad, 2, 0, -BREAKWARP_REFUSED_PATTERN, NULL);
+    try_write(3, "aen", 3, anna, 4, bad, 2, 0, -BREAKWARP_REFUSED_TEXT, NULL);
+    /* Eight thousand letters and more: 8,192 bytes are written, one more is refused, whatever the room. */
+    size_t n = BREAKWARP_MAX_N + 1;
+    uint32_t *text = malloc(n * sizeof *text);
+    static char full[BREAKWARP_MAX_SHEET + 1];
+    if (text == NULL) {
+        printf("c: no memory for the test\n");
+        exit(1);
+    }
+    for (size_t at = 0; at < n; at++)
+        text[at] = 1;
+    int front = snprintf(full, sizeof full, "1\na\n1\na\n8178\n");
+    memset(full + front, 'a', 8178);
+    full[front + 8178] = '\n';
+    try_write(1, "a", 1, a, 1, text, 8178, 8192, 8192, full);
+    try_write(1, "a", 1, a, 1, text, 8178, 8191, -BREAKWARP_REFUSED_ROOM, NULL);
+    try_write(1, "a", 1, a, 1, text, 8179, 9000, -BREAKWARP_REFUSED_SHEET, NULL);
+    try_write(1, "a", 1, a, 1, text, 8179, 0, -BREAKWARP_REFUSED_SHEET, NULL);
+    try_write(1, "a", 1, a, 1, text, n - 1, 0, -BREAKWARP_REFUSED_SHEET, NULL);
+    try_write(1, "a", 1, a, 1, text, n, 0, -BREAKWARP_REFUSED_N, NULL);
+    free(text);
+    snprintf(about, sizeof about, "write_sheet with null pointers");
+    same("no alphabet", breakwarp_write_sheet(3, NULL, 0, NULL, 0, NULL, 0, NULL, 0), -BREAKWARP_REFUSED_ALPHABET);
+    same("no pattern", breakwarp_write_sheet(1, (const uint8_t *)"a", 1, NULL, 0, NULL, 0, NULL, 0), -BREAKWARP_REFUSED_M);
+    same("no room", breakwarp_write_sheet(1, (const uint8_t *)"a", 1, a, 1, NULL, 0, NULL, 0), -BREAKWARP_REFUSED_ROOM);
+}
+
+int main(void)
+{
+    worked_search();
+    small_searches();
+    search_refusals();
+    search_limits();
+    null_searches();
+    conversions();
+    long_conversions();
+    meetings();
+    readings();
+    refused_sheets();
+    reports();
+    longest_report();
+    writings();
+    printf("c: %lu checks\n", checks);
+    return 0;
+}

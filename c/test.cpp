@@ -1,0 +1,34 @@
+// The header from C++.
+//
+//     c++ -std=c++17 -Wall -Wextra -Werror -o test_cpp test.cpp libbreakwarp.a && ./test_cpp
+#include "breakwarp.h"
+
+#include <array>
+#include <cstdio>
+#include <string>
+
+int main()
+{
+    const std::string sheet = "3\naen\n4\nanna\n12\nannann[ae]nann[an]\n";
+    const std::string due = "hits 3\n0\n3\n8\nbrute 20 0 0\nkmp 13 4 0\nbm 14 3 0\nsunday 15 0 0\n"
+                            "shiftand 0 0 12\nhybrid 1 0 12\n";
+    static std::array<std::uint8_t, BREAKWARP_MAX_REPORT> report;
+    const auto length = breakwarp_report(reinterpret_cast<const std::uint8_t *>(sheet.data()), sheet.size(),
+                                         report.data(), report.size());
+    if (length < 0 || std::string(report.begin(), report.begin() + length) != due) {
+        std::puts("c++: the worked sheet has another report");
+        return 1;
+    }
+    const std::array<std::uint32_t, 2> pattern{1, 4};
+    const std::array<std::uint32_t, 5> text{2, 2, 2, 1, 4};
+    std::array<std::uint32_t, 5> hits{};
+    std::array<std::uint64_t, 3> work{};
+    const auto total = breakwarp_hybrid(3, pattern.data(), pattern.size(), text.data(), text.size(), hits.data(),
+                                        hits.size(), work.data(), work.size());
+    if (total != 1 || hits[0] != 3 || work != std::array<std::uint64_t, 3>{2, 0, 2}) {
+        std::puts("c++: an in eeean is not found as it should be");
+        return 1;
+    }
+    std::puts("c++: 2 checks");
+    return 0;
+}

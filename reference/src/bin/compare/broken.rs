@@ -1,0 +1,219 @@
+//! Deliberate slips on the reference's side, to show that the comparison notices them. None is used unless
+//! `--broken NAME` asks for it.
+
+use reference::engines::{Engine, Found};
+use reference::letters::{meets, single};
+
+/// A slip, the groups that must notice it, and what it does to the expectation.
+pub struct Slip {
+    pub name: &'static str,
+    pub groups: &'static [&'static str],
+    pub what: &'static str,
+}
+
+const fn slip(name: &'static str, groups: &'static [&'static str], what: &'static str) -> Slip {
+    Slip { name, groups, what }
+}
+
+const SEARCHES: &[&str] = &["exhaustive", "random", "limits"];
+
+pub const SLIPS: &[Slip] = &[
+    slip("total", SEARCHES, "the total is one too high where there are hits"),
+    slip("last-start", SEARCHES, "the list lacks the last start that it holds"),
+    slip("tail", SEARCHES, "the cell after the last hit is expected to be written"),
+    slip("scan", SEARCHES, "scan tests are one too high where there are any"),
+    slip("shift", SEARCHES, "shift tests are one too high where there are any"),
+    slip("words", SEARCHES, "word steps are one too high where there are any"),
+    slip("fourth-count", &["random"], "a fourth count is written where four are lent"),
+    slip("kmp-borders", SEARCHES, "KMP shifts by the pattern's borders even if the text is unsure"),
+    slip("kmp-beyond", SEARCHES, "KMP makes its trials beyond n - m too, as far as the text goes"),
+    slip("kmp-whole-pattern", &["exhaustive", "random"], "KMP asks for all of P to be single, not its first h letters"),
+    slip("bm-right-to-left", SEARCHES, "BM's trials go over the covered positions right to left"),
+    slip("bm-met-only", &["exhaustive", "random"], "BM asks only the letters that met to be single, not all of P"),
+    slip("lowest-member", SEARCHES, "R looks at the lowest member of an unsure letter alone"),
+    slip("hybrid-one-on", SEARCHES, "Hybrid goes one on after a failure, not as Sunday does"),
+    slip("k-32", &["limits", "refusals"], "an alphabet of 32 is refused"),
+    slip("m-64", &["limits", "refusals"], "a pattern of 64 letters is refused"),
+    slip("n-65536", &["limits"], "a text of 65,536 letters is refused"),
+    slip("order-23", &["refusals"], "3 is checked before 2"),
+    slip("order-45", &["refusals"], "5 is checked before 4"),
+    slip("work-first", &["refusals"], "the 8 for the counts comes before 4 and 5"),
+    slip("refused-writes", &["refusals"], "a refused search writes its counts as 0"),
+    slip("product", &["products"], "the product of all nine letters is one too high"),
+    slip("letter", &["products"], "the product of all nine primes gives a letter without its last member"),
+    slip("one", &["products"], "1 is taken for a product"),
+    slip("meet", &["products"], "a product does not meet itself"),
+    slip("order-36", &["products"], "3 is checked before 6"),
+    slip("order-58", &["products"], "8 is checked before 5 and 7"),
+    slip("refused-converts", &["products"], "a conversion refused by 8 writes what there is room for"),
+    slip("read-text", &["read"], "the last text letter has one member more, or one less"),
+    slip("read-sizes", &["read"], "n is one too high"),
+    slip("read-zero", &["read", "reports"], "a leading 0 of the first count is passed over"),
+    slip("read-whole", &["read", "reports"], "the whole alphabet may stand in brackets"),
+    slip("read-13", &["read", "reports"], "14 comes before 13"),
+    slip("read-15", &["read", "reports"], "bytes after the last section are passed over"),
+    slip("read-room", &["read"], "the alphabet's 8 comes after all other checks"),
+    slip("read-sizes-room", &["read"], "the 8 for the sizes comes before all other checks"),
+    slip("read-8192", &["read", "reports"], "a sheet of 8,192 bytes is refused"),
+    slip("write-byte", &["write"], "the byte before the last LF is another one"),
+    slip("write-12", &["write"], "12 comes after 5"),
+    slip("write-twice", &["write"], "an alphabet may hold a byte twice"),
+    slip("write-8192", &["write"], "a sheet of 8,192 bytes is not written"),
+    slip("write-room", &["write"], "8 comes before 10"),
+    slip("report-byte", &["reports"], "the last digit is another one"),
+    slip("report-room", &["reports"], "a report needs one byte more than it has"),
+    slip("report-writes", &["reports"], "a report refused by 8 fills what there is"),
+    slip("place", &["program"], "every place but 0 is one too high"),
+    slip("bracket-place", &["program"], "a member that is wrong before a closer is found at the closer"),
+    slip("line-end", &["program"], "the last line has no LF"),
+];
+
+/// Shift by the least s up to `most` for which `fits` holds.
+fn least(most: usize, fits: impl FnMut(&usize) -> bool) -> usize {
+    (1..=most).find(fits).unwrap()
+}
+
+/// A count of tests that stops at the first pair that does not meet.
+fn tried(count: &mut u64, mut pairs: impl Iterator<Item = (u32, u32)>) -> bool {
+    pairs.all(|(a, b)| {
+        *count += 1;
+        meets(a, b)
+    })
+}
+
+fn all_single(letters: &[u32]) -> bool {
+    letters.iter().all(|c| single(*c))
+}
+
+/// R(c) + 1.
+fn after_r(name: &str, p: &[u32], c: u32) -> usize {
+    let c = if name == "lowest-member" { c & c.wrapping_neg() } else { c };
+    p.iter().rposition(|x| meets(*x, c)).map_or(0, |j| j + 1)
+}
+
+fn kmp(name: &str, p: &[u32], t: &[u32]) -> Found {
+    let (m, n) = (p.len(), t.len());
+    let mut found = Found::default();
+    let (mut i, mut known) = (0, 0);
+    while i + m <= n {
+        let mut h = known;
+        while h < m && tried(&mut found.work.scan, [(p[h], t[i + h])].into_iter()) {
+            h += 1;
+        }
+        if h == m {
+            found.hits.push(i as u32);
+        }
+        let under = all_single(&t[i..i + h]);
+        let s = if h == 0 {
+            1
+        } else if name == "kmp-borders" {
+            least(h, |s| (*s..h).all(|j| meets(p[j - s], p[j])))
+        } else if under && all_single(if name == "kmp-whole-pattern" { p } else { &p[..h] }) {
+            least(h, |s| (*s..h).all(|j| meets(p[j - s], t[i + j])))
+        } else {
+            let beyond = |s: usize| i + s + m > n && name != "kmp-beyond";
+            least(h, |s| beyond(*s) || tried(&mut found.work.shift, (*s..h).map(|j| (p[j - s], t[i + j]))))
+        };
+        i += s;
+        known = h.saturating_sub(s);
+    }
+    found
+}
+
+fn bm(name: &str, p: &[u32], t: &[u32]) -> Found {
+    let (m, n) = (p.len(), t.len());
+    let mut found = Found::default();
+    let mut i = 0;
+    while i + m <= n {
+        let mut g = 0;
+        while g < m && tried(&mut found.work.scan, [(p[m - 1 - g], t[i + m - 1 - g])].into_iter()) {
+            g += 1;
+        }
+        if g == m {
+            found.hits.push(i as u32);
+        }
+        let plain = all_single(if name == "bm-met-only" { &p[m - g..] } else { p }) && all_single(&t[i + m - g..i + m]);
+        let first = least(m, |s| {
+            let mut pairs: Vec<(u32, u32)> = ((m - g).max(*s)..m).map(|j| (p[j - s], t[i + j])).collect();
+            if name == "bm-right-to-left" {
+                pairs.reverse();
+            }
+            let mut untold = 0;
+            let count = if plain { &mut untold } else { &mut found.work.shift };
+            i + s + m > n || tried(count, pairs.into_iter())
+        });
+        let second = if g == m { 1 } else { (m - g).saturating_sub(after_r(name, p, t[i + m - 1 - g])).max(1) };
+        i += first.max(second);
+    }
+    found
+}
+
+fn sunday(name: &str, p: &[u32], t: &[u32]) -> Found {
+    let (m, n) = (p.len(), t.len());
+    let mut found = Found::default();
+    let mut i = 0;
+    while i + m <= n {
+        if tried(&mut found.work.scan, (0..m).map(|j| (p[j], t[i + j]))) {
+            found.hits.push(i as u32);
+        }
+        if i + m == n {
+            break;
+        }
+        i += m + 1 - after_r(name, p, t[i + m]);
+    }
+    found
+}
+
+fn hybrid(name: &str, p: &[u32], t: &[u32]) -> Found {
+    let (m, n) = (p.len(), t.len());
+    let mut found = Found::default();
+    let mut a = 0;
+    while a + m <= n {
+        if !tried(&mut found.work.scan, [(p[m - 1], t[a + m - 1])].into_iter()) {
+            if a + m == n {
+                break;
+            }
+            a += if name == "hybrid-one-on" { 1 } else { m + 1 - after_r(name, p, t[a + m]) };
+            continue;
+        }
+        let mut state = 0u64;
+        while a < n {
+            let mask: u64 = (0..m).filter(|j| meets(p[*j], t[a])).map(|j| 1 << j).sum();
+            state = (state << 1 | 1) & mask;
+            found.work.words += 1;
+            a += 1;
+            if state >> (m - 1) & 1 == 1 {
+                found.hits.push((a - m) as u32);
+            }
+            if state == 0 {
+                break;
+            }
+        }
+    }
+    found
+}
+
+/// An engine's run with the slip that was asked for, if the slip is in that engine.
+pub fn run(name: Option<&str>, engine: Engine, p: &[u32], t: &[u32]) -> Found {
+    match (name, engine) {
+        (Some(name @ ("kmp-borders" | "kmp-beyond" | "kmp-whole-pattern")), Engine::Kmp) => kmp(name, p, t),
+        (Some(name @ ("bm-right-to-left" | "bm-met-only" | "lowest-member")), Engine::Bm) => bm(name, p, t),
+        (Some(name @ "lowest-member"), Engine::Sunday) => sunday(name, p, t),
+        (Some(name @ ("lowest-member" | "hybrid-one-on")), Engine::Hybrid) => hybrid(name, p, t),
+        _ => engine.run(p, t),
+    }
+}
+
+/// Without a slip these runs are the reference's, so that what is noticed is the slip and nothing else.
+#[test]
+fn without_a_slip_the_runs_are_right() {
+    let strings = crate::cases::strings_up_to(&[1, 2, 3], 6);
+    for p in strings[1..].iter().filter(|p| p.len() <= 3) {
+        for t in &strings {
+            assert_eq!(kmp("", p, t), Engine::Kmp.run(p, t));
+            assert_eq!(bm("", p, t), Engine::Bm.run(p, t));
+            assert_eq!(sunday("", p, t), Engine::Sunday.run(p, t));
+            assert_eq!(hybrid("", p, t), Engine::Hybrid.run(p, t));
+        }
+    }
+}

@@ -1,0 +1,286 @@
+//! What is expected of each call: its answer and every cell that it writes, from the reference.
+
+use crate::broken;
+use crate::library::{ConvertCase, ReadCase, SearchCase, Way, WriteCase};
+use reference::engines::{search, Engine};
+use reference::products::{from_products, products_meet, to_products};
+use reference::refusals::{check_letters, check_n, check_room, check_search, Refusal};
+use reference::report::{printed, report};
+use reference::sheet::{allowed, read, write, Room};
+use std::fmt;
+
+/// The answer, and what is written at the front of each lent slice; all else keeps its content.
+#[derive(Clone, Default)]
+pub struct Outcome {
+    pub answer: i64,
+    pub bytes: Vec<u8>,
+    pub letters: Vec<u32>,
+    pub more: Vec<u32>,
+    pub numbers: Vec<u64>,
+}
+
+impl fmt::Debug for Outcome {
+    fn fmt(&self, f: &mut fmt::Formatter) -> fmt::Result {
+        write!(f, "{}", self.answer)?;
+        if !self.bytes.is_empty() {
+            write!(f, ", \"{}\"", self.bytes.escape_ascii())?;
+        }
+        for letters in [&self.letters, &self.more].into_iter().filter(|letters| !letters.is_empty()) {
+            write!(f, ", {letters:?}")?;
+        }
+        if self.numbers.is_empty() {
+            Ok(())
+        } else {
+            write!(f, ", {:?}", self.numbers)
+        }
+    }
+}
+
+fn refused(refusal: Refusal) -> Outcome {
+    Outcome { answer: -i64::from(refusal.number), ..Outcome::default() }
+}
+
+fn number(number: u32) -> Result<Outcome, Refusal> {
+    Err(Refusal { number, place: 0 })
+}
+
+/// The expectation, with the slip that was asked for, if any.
+#[derive(Clone, Copy)]
+pub struct Expect {
+    pub broken: Option<&'static str>,
+}
+
+impl Expect {
+    fn is(self, name: &str) -> bool {
+        self.broken == Some(name)
+    }
+
+    pub fn search(self, engine: Engine, case: &SearchCase) -> Outcome {
+        let mut out = self.checked_search(engine, case).unwrap_or_else(refused);
+        if out.answer < 0 {
+            if self.is("refused-writes") {
+                out.numbers = vec![0; case.nwork.min(3)];
+            }
+            return out;
+        }
+        let total = out.letters.len();
+        out.letters.truncate(case.cap);
+        match self.broken {
+            Some("total") if total > 0 => out.answer += 1,
+            Some("last-start") => drop(out.letters.pop()),
+            Some("tail") if total < case.cap => out.letters.push(0),
+            Some("scan") if out.numbers[0] > 0 => out.numbers[0] += 1,
+            Some("shift") if out.numbers[1] > 0 => out.numbers[1] += 1,
+            Some("words") if out.numbers[2] > 0 => out.numbers[2] += 1,
+            Some("fourth-count") if case.nwork > 3 => out.numbers.push(0),
+            _ => {}
+        }
+        out
+    }
+
+    fn checked_search(self, engine: Engine, case: &SearchCase) -> Result<Outcome, Refusal> {
+        let SearchCase { k, pattern, text, nwork, .. } = case;
+        match self.broken {
+            Some("k-32") if *k == 32 => return number(1),
+            Some("m-64") if (1..=32).contains(k) && pattern.len() == 64 => return number(2),
+            Some("n-65536") if text.len() == 65_536 => return number(3),
+            Some("order-23") if (1..=32).contains(k) => check_n(text.len())?,
+            Some("order-45") if pattern.len() <= 64 && text.len() <= 65_536 => check_letters(5, *k, text)?,
+            Some("work-first") if pattern.len() <= 64 && text.len() <= 65_536 => check_room(3, *nwork)?,
+            _ => {}
+        }
+        // The checks are the reference's own; the run has the slip.
+        check_search(*k, pattern, text)?;
+        check_room(3, *nwork)?;
+        let found = match self.broken {
+            None => search(engine, *k, pattern, text)?,
+            Some(_) => broken::run(self.broken, engine, pattern, text),
+        };
+        let numbers = vec![found.work.scan, found.work.shift, found.work.words];
+        Ok(Outcome { answer: found.hits.len() as i64, letters: found.hits, numbers, ..Outcome::default() })
+    }
+
+    pub fn convert(self, case: &ConvertCase) -> Outcome {
+        let ConvertCase { way, k, values, cap } = case;
+        if self.is("order-36") && (1..=32).contains(k) && values.len() > 65_536 {
+            return refused(Refusal { number: 3, place: 0 });
+        }
+        if self.is("order-58") && (1..=9).contains(k) && values.len() <= 65_536 && *cap < values.len() {
+            return refused(Refusal { number: 8, place: 0 });
+        }
+        let taken: Vec<u32> = match way {
+            Way::FromProducts if self.is("one") => values.iter().map(|v| if *v == 1 { 2 } else { *v }).collect(),
+            _ => values.clone(),
+        };
+        let converted = match way {
+            Way::ToProducts => to_products(*k, &taken, *cap),
+            Way::FromProducts => from_products(*k, &taken, *cap),
+        };
+        let mut out = match converted {
+            Ok(letters) => Outcome { answer: letters.len() as i64, letters, ..Outcome::default() },
+            Err(refusal) => refused(refusal),
+        };
+        for value in &mut out.letters {
+            match (self.broken, &way) {
+                (Some("product"), Way::ToProducts) if *value == 223_092_870 => *value += 1,
+                (Some("letter"), Way::FromProducts) if *value == 0x1ff => *value = 0xff,
+                _ => {}
+            }
+        }
+        if self.is("refused-converts") && out.answer == -8 {
+            out.letters = vec![0; *cap];
+        }
+        out
+    }
+
+    pub fn products_meet(self, k: u32, a: u32, b: u32) -> Outcome {
+        match products_meet(k, a, b) {
+            Ok(meet) => Outcome { answer: i64::from(meet && !(self.is("meet") && a == b)), ..Outcome::default() },
+            Err(refusal) => refused(refusal),
+        }
+    }
+
+    /// The sheet that a slip of the reader would take this one for.
+    fn taken_for(self, sheet: &[u8]) -> Vec<u8> {
+        if self.is("read-zero") && sheet.first() == Some(&b'0') && sheet.get(1).is_some_and(u8::is_ascii_digit) {
+            return sheet[1..].to_vec();
+        }
+        if self.is("read-whole") {
+            let alphabet = sheet.split(|b| *b == b'\n').nth(1).unwrap_or(b"");
+            let whole = [&b"["[..], alphabet, &b"]"[..]].concat();
+            if alphabet.len() > 2 && sheet.windows(whole.len()).any(|w| w == whole) {
+                let at = sheet.windows(whole.len()).position(|w| w == whole).unwrap();
+                return [&sheet[..at], b"*", &sheet[at + whole.len()..]].concat();
+            }
+        }
+        sheet.to_vec()
+    }
+
+    /// Refusals that a slip of the reader leaves out or brings in.
+    fn slipped_read(self, sheet: &[u8]) -> Option<Refusal> {
+        let refusal = read(sheet, Room::AMPLE).err();
+        match (self.broken, refusal.map(|r| r.number)) {
+            (Some("read-13"), Some(13)) => Some(Refusal { number: 14, place: 0 }),
+            (Some("read-8192"), None) if sheet.len() == 8192 => Some(Refusal { number: 10, place: 0 }),
+            _ => None,
+        }
+    }
+
+    pub fn read_sheet(self, case: &ReadCase) -> Outcome {
+        let mut sheet = self.taken_for(&case.sheet);
+        if let Some(refusal) = self.slipped_read(&sheet) {
+            return refused(refusal);
+        }
+        let mut room = Room { alphabet: case.nalphabet, pattern: case.npattern, text: case.ntext };
+        if self.is("read-sizes-room") && case.nsizes < 3 {
+            return refused(Refusal { number: 8, place: 0 });
+        }
+        if self.is("read-room") {
+            room.alphabet = usize::MAX;
+        }
+        let mut answer = read(&sheet, room);
+        if let (true, Err(Refusal { number: 15, place })) = (self.is("read-15"), &answer) {
+            sheet.truncate(*place);
+            answer = read(&sheet, room);
+        }
+        let answer = answer.and_then(|sheet| {
+            check_room(3, case.nsizes)?;
+            check_room(sheet.alphabet.len(), case.nalphabet)?;
+            Ok(sheet)
+        });
+        let Ok(sheet) = answer else { return refused(answer.unwrap_err()) };
+        let sizes = [sheet.alphabet.len(), sheet.pattern.len(), sheet.text.len()];
+        let mut numbers = sizes.map(|size| size as u64).to_vec();
+        let mut more = sheet.text;
+        if self.is("read-sizes") {
+            numbers[2] += 1;
+        }
+        if let (true, Some(last)) = (self.is("read-text"), more.last_mut()) {
+            *last ^= 2;
+        }
+        Outcome { answer: 0, bytes: sheet.alphabet, letters: sheet.pattern, more, numbers }
+    }
+
+    pub fn write_sheet(self, case: &WriteCase) -> Outcome {
+        let WriteCase { k, alphabet, pattern, text, cap } = case;
+        let mut written = write(*k, alphabet, pattern, text, *cap);
+        let number = |result: &Result<Vec<u8>, Refusal>| result.as_ref().err().map_or(0, |r| r.number);
+        match self.broken {
+            Some("write-12") if number(&written) == 12 => {
+                if let Err(refusal) = check_search(*k, pattern, text) {
+                    written = Err(refusal);
+                }
+            }
+            Some("write-twice") if number(&written) == 12 && alphabet.len() == *k as usize => {
+                // With bytes of its own for all letters the rest of the sheet is as long.
+                let fresh: Vec<u8> = (b'0'..=b'9').chain(b'a'..=b'z').take(alphabet.len()).collect();
+                if alphabet.iter().all(|b| allowed(*b)) {
+                    written = write(*k, &fresh, pattern, text, *cap);
+                }
+            }
+            Some("write-8192") if written.as_ref().is_ok_and(|bytes| bytes.len() == 8192) => {
+                written = Err(Refusal { number: 10, place: 0 });
+            }
+            Some("write-room") if number(&written) == 10 && *cap <= 8192 => {
+                written = Err(Refusal { number: 8, place: 0 });
+            }
+            _ => {}
+        }
+        match written {
+            Ok(mut bytes) => {
+                if self.is("write-byte") {
+                    let at = bytes.len() - 2;
+                    bytes[at] ^= 1;
+                }
+                Outcome { answer: bytes.len() as i64, bytes, ..Outcome::default() }
+            }
+            Err(refusal) => refused(refusal),
+        }
+    }
+
+    pub fn report(self, sheet: &[u8], cap: usize) -> Outcome {
+        let mut sheet = self.taken_for(sheet);
+        if let Some(refusal) = self.slipped_read(&sheet) {
+            return refused(refusal);
+        }
+        let mut answer = report(&sheet);
+        if let (true, Err(Refusal { number: 15, place })) = (self.is("read-15"), &answer) {
+            sheet.truncate(*place);
+            answer = report(&sheet);
+        }
+        let needed = |bytes: &Vec<u8>| bytes.len() + usize::from(self.is("report-room"));
+        let answer = answer.and_then(|bytes| check_room(needed(&bytes), cap).map(|_| bytes));
+        match answer {
+            Ok(mut bytes) => {
+                if self.is("report-byte") {
+                    let at = bytes.len() - 2;
+                    bytes[at] ^= 1;
+                }
+                Outcome { answer: bytes.len() as i64, bytes, ..Outcome::default() }
+            }
+            Err(refusal) => {
+                let mut out = refused(refusal);
+                if self.is("report-writes") && refusal.number == 8 {
+                    out.bytes = report(&sheet).unwrap()[..cap].to_vec();
+                }
+                out
+            }
+        }
+    }
+
+    /// What the program `search` prints, as bytes.
+    pub fn printed(self, sheet: &[u8]) -> Outcome {
+        let mut bytes = printed(sheet);
+        let refusal = read(sheet, Room::AMPLE).err();
+        let at = |r: Refusal, place: usize| format!("refused {} at {place}\n", r.number).into_bytes();
+        match (self.broken, refusal) {
+            (Some("place"), Some(r)) if r.place > 0 => bytes = at(r, r.place + 1),
+            (Some("bracket-place"), Some(r)) if r.number == 13 && sheet.get(r.place + 1) == Some(&b']') => {
+                bytes = at(r, r.place + 1)
+            }
+            (Some("line-end"), _) => drop(bytes.pop()),
+            _ => {}
+        }
+        Outcome { bytes, ..refusal.map_or_else(Outcome::default, refused) }
+    }
+}

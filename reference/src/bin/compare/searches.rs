@@ -1,0 +1,181 @@
+//! The six searches.
+
+use crate::cases::{pair, strings_up_to};
+use crate::library::{self, SearchCase};
+use crate::{Run, Told};
+use reference::engines::{Engine, ENGINES};
+use reference::letters::{hits, whole};
+
+fn one(run: &mut Run, engine: Engine, case: &SearchCase) -> Told {
+    let due = run.expect.search(engine, case);
+    let seen = library::search(engine, case, &due);
+    run.count(engine.name(), case, &due, seen)
+}
+
+fn each(run: &mut Run, case: &SearchCase) -> Told {
+    ENGINES.iter().try_for_each(|engine| one(run, *engine, case))
+}
+
+/// Every pattern with every text over the letters of k base letters, up to the given lengths.
+fn universe(run: &mut Run, k: u32, m: usize, n: usize) -> Told {
+    let letters: Vec<u32> = (1..=whole(k)).collect();
+    let texts = strings_up_to(&letters, n);
+    for pattern in strings_up_to(&letters, m).into_iter().skip(1) {
+        for (index, text) in texts.iter().enumerate() {
+            let cap = index % (text.len() + 3);
+            each(run, &SearchCase { k, pattern: pattern.clone(), text: text.clone(), cap, nwork: 3 })?;
+        }
+    }
+    Ok(())
+}
+
+pub fn exhaustive(run: &mut Run) -> Told {
+    universe(run, 1, 6, 8)?;
+    universe(run, 2, 4, 7)?;
+    universe(run, 3, 2, 4)?;
+    universe(run, 3, 3, 3)
+}
+
+fn lengths(run: &mut Run) -> (usize, usize) {
+    let random = &mut run.random;
+    let m = match random.below(8) {
+        0 => 1,
+        1 => random.pick(&[63, 64]),
+        2 => random.between(9, 62),
+        _ => random.between(2, 8),
+    };
+    let n = match random.below(16) {
+        0 => random.pick(&[0, 1, m - 1]),
+        1 => m,
+        2 => m + 1,
+        3 => random.between(0, m),
+        4 => random.between(m, 2 * m),
+        5 => random.between(300, 1500),
+        6 | 7 => random.between(60, 300),
+        _ => random.between(m, m + 40),
+    };
+    (m, n)
+}
+
+pub fn random(run: &mut Run) -> Told {
+    for _ in 0..run.times(40_000) {
+        let k = run.random.pick(&[1, 2, 2, 3, 3, 4, 5, 9, 10, 16, 26, 31, 32]);
+        let (m, n) = lengths(run);
+        let (pattern, text) = pair(&mut run.random, k, m, n);
+        let total = hits(&pattern, &text).len();
+        for engine in ENGINES {
+            let caps = [0, 1, total / 2, total.saturating_sub(1), total, total + 1, total + 9];
+            let cap = run.random.pick(&caps);
+            let nwork = run.random.pick(&[3, 3, 3, 4, 7]);
+            one(run, engine, &SearchCase { k, pattern: pattern.clone(), text: text.clone(), cap, nwork })?;
+        }
+    }
+    Ok(())
+}
+
+/// Strings that bring the engines to the ends of their bounds.
+fn strings(run: &mut Run, kind: usize, k: u32, m: usize, n: usize) -> (Vec<u32>, Vec<u32>) {
+    let last = 1 << (k - 1);
+    let all_but = |length: usize, at: usize, other: u32| -> Vec<u32> {
+        (0..length).map(|j| if j == at { other } else { 1 }).collect()
+    };
+    match kind {
+        0 => (vec![1; m], vec![1; n]),
+        1 => (vec![whole(k); m], vec![whole(k); n]),
+        2 => (all_but(m, m - 1, last), vec![1; n]),
+        3 => (all_but(m, 0, last), vec![1; n]),
+        4 => (all_but(m, m / 2, last), vec![1 | last; n]),
+        // A single doubt in the text, once in a pattern's length.
+        5 => (vec![1; m], (0..n).map(|q| if q % m == 0 { 1 | last } else { 1 }).collect()),
+        _ => pair(&mut run.random, k, m, n),
+    }
+}
+
+pub fn limits(run: &mut Run) -> Told {
+    for m in [1, 2, 63, 64] {
+        for n in [0, 1, m - 1, m, m + 1, 2 * m, 65_535, 65_536] {
+            for kind in 0..9 {
+                let long = n > 1000;
+                let ks = if long { &[1, 2, 32][kind % 3..][..1] } else { &[1, 2, 31, 32][..] };
+                for k in ks {
+                    let (pattern, text) = strings(run, kind, *k, m, n);
+                    let total = hits(&pattern, &text).len();
+                    for cap in
+                        [0, 1, total.saturating_sub(1), total, total + 1].into_iter().skip(if long { 4 } else { 0 })
+                    {
+                        each(run, &SearchCase { k: *k, pattern: pattern.clone(), text: text.clone(), cap, nwork: 3 })?;
+                    }
+                }
+            }
+        }
+    }
+    Ok(())
+}
+
+/// The six things that can be wrong with a search, each as a bit of `faults`.
+fn faulty(run: &mut Run, faults: usize, base: &SearchCase) -> SearchCase {
+    let mut case = base.clone();
+    let random = &mut run.random;
+    let fault = |number: usize| faults >> number & 1 == 1;
+    let mut spoil = |letters: &mut Vec<u32>, k: u32| {
+        if letters.is_empty() {
+            letters.push(0);
+        }
+        for _ in 0..random.between(1, 3) {
+            let above = if k < 32 { 1u32 << random.between(k as usize, 31) } else { 0 };
+            let at = random.index(letters.len());
+            letters[at] = if random.once_in(2) { 0 } else { above | (letters[at] * random.below(2) as u32) };
+        }
+    };
+    if fault(3) {
+        spoil(&mut case.pattern, base.k);
+    }
+    if fault(4) {
+        spoil(&mut case.text, base.k);
+    }
+    if fault(0) {
+        case.k = random.pick(&[0, 33, 34, 64, 255, 256, u32::MAX]);
+    }
+    if fault(1) {
+        let m = random.pick(&[0, 65, 66, 128, 300]);
+        case.pattern = (0..m).map(|j| base.pattern[j % base.pattern.len()]).collect();
+        if fault(3) && m > 0 {
+            case.pattern[m - 1] = 0;
+        }
+    }
+    if fault(2) {
+        let letter = case.text.first().copied().unwrap_or(1);
+        case.text.resize(random.pick(&[65_537, 65_538, 70_000]), letter);
+    }
+    if fault(5) {
+        case.nwork = random.below(3);
+    }
+    case
+}
+
+pub fn refusals(run: &mut Run) -> Told {
+    for round in 0..run.times(64 * 60) {
+        let k = run.random.pick(&[1, 2, 3, 9, 31, 32]);
+        let m = run.random.pick(&[1, 2, 5, 63, 64]);
+        let n = run.random.pick(&[0, 1, 2, 64, 200]);
+        let (pattern, text) = pair(&mut run.random, k, m, n);
+        let cap = run.random.pick(&[0, 1, 5, 300]);
+        let base = SearchCase { k, pattern, text, cap, nwork: 3 };
+        let faults = run.random.faults(round, 6);
+        let case = faulty(run, faults, &base);
+        each(run, &case)?;
+    }
+    // Every k with letters on both sides of its limit, in every kind of place.
+    for k in 0..=34 {
+        let letters = (0..32).map(|b| 1u32 << b).chain([0, 3, 6, whole(k.min(32)), !0, !0 << 1, !0 >> 1]);
+        for letter in letters {
+            for m in [1, 2, 64] {
+                let mut long = vec![1; m];
+                long[m / 2] = letter;
+                each(run, &SearchCase { k, pattern: long.clone(), text: vec![1; m + 1], cap: 2, nwork: 3 })?;
+                each(run, &SearchCase { k, pattern: vec![1; m], text: long, cap: 2, nwork: 3 })?;
+            }
+        }
+    }
+    Ok(())
+}

@@ -1,0 +1,73 @@
+//! The limits, the refusal, and the checks that several calls share.
+
+use crate::letters::right;
+
+pub const MAX_K: u32 = 32;
+pub const MAX_M: usize = 64;
+pub const MAX_N: usize = 65_536;
+pub const MAX_PRODUCT_K: u32 = 9;
+pub const MAX_SHEET: usize = 8_192;
+
+/// A refusal: its number in the table of refusals, and a place, 0 where none is named.
+#[derive(Clone, Copy, Debug, PartialEq, Eq)]
+pub struct Refusal {
+    pub number: u32,
+    pub place: usize,
+}
+
+pub fn refuse<T>(number: u32, place: usize) -> Result<T, Refusal> {
+    Err(Refusal { number, place })
+}
+
+/// Refusal 1.
+pub fn check_k(k: u32) -> Result<(), Refusal> {
+    if k == 0 || k > MAX_K {
+        refuse(1, 0)
+    } else {
+        Ok(())
+    }
+}
+
+/// Refusal 2.
+pub fn check_m(m: usize) -> Result<(), Refusal> {
+    if m == 0 || m > MAX_M {
+        refuse(2, 0)
+    } else {
+        Ok(())
+    }
+}
+
+/// Refusal 3.
+pub fn check_n(n: usize) -> Result<(), Refusal> {
+    if n > MAX_N {
+        refuse(3, 0)
+    } else {
+        Ok(())
+    }
+}
+
+/// Refusals 4 and 5: the lowest index of a wrong letter.
+pub fn check_letters(number: u32, k: u32, letters: &[u32]) -> Result<(), Refusal> {
+    match letters.iter().position(|c| !right(k, *c)) {
+        Some(place) => refuse(number, place),
+        None => Ok(()),
+    }
+}
+
+/// Refusal 8.
+pub fn check_room(needed: usize, lent: usize) -> Result<(), Refusal> {
+    if lent < needed {
+        refuse(8, 0)
+    } else {
+        Ok(())
+    }
+}
+
+/// What a search checks, in its order.
+pub fn check_search(k: u32, pattern: &[u32], text: &[u32]) -> Result<(), Refusal> {
+    check_k(k)?;
+    check_m(pattern.len())?;
+    check_n(text.len())?;
+    check_letters(4, k, pattern)?;
+    check_letters(5, k, text)
+}

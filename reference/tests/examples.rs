@@ -1,0 +1,205 @@
+//! The worked examples of the rules, and the errors that look right.
+
+use reference::engines::{r, search, Engine, Found, Work, ENGINES};
+use reference::letters::{hits, meets, single};
+use reference::products::{from_products, product, products_meet, to_products};
+use reference::refusals::{Refusal, MAX_N};
+use reference::report::{printed, report};
+use reference::sheet::{read, write, Room};
+
+/// The letters of a line over the alphabet aen.
+fn aen(line: &str) -> Vec<u32> {
+    let sheet = |n: usize| format!("3\naen\n1\na\n{n}\n{line}\n");
+    let read = |n| read(sheet(n).as_bytes(), Room::AMPLE);
+    (0..=line.len()).find_map(|n| read(n).ok()).unwrap_or_else(|| panic!("{line} is no letter line")).text
+}
+
+fn found(engine: Engine, pattern: &str, text: &str) -> Found {
+    search(engine, 3, &aen(pattern), &aen(text)).unwrap()
+}
+
+fn work(scan: u64, shift: u64, words: u64) -> Work {
+    Work { scan, shift, words }
+}
+
+const WORKED: &str = "3\naen\n4\nanna\n12\nannann[ae]nann[an]\n";
+
+#[test]
+fn the_worked_sheet() {
+    let expected =
+        "hits 3\n0\n3\n8\nbrute 20 0 0\nkmp 13 4 0\nbm 14 3 0\nsunday 15 0 0\nshiftand 0 0 12\nhybrid 1 0 12\n";
+    assert_eq!(String::from_utf8(report(WORKED.as_bytes()).unwrap()).unwrap(), expected);
+    let worked = read(WORKED.as_bytes(), Room::AMPLE).unwrap();
+    assert_eq!(worked.pattern, [1, 4, 4, 1]);
+    assert_eq!(worked.text, [1, 4, 4, 1, 4, 4, 3, 4, 1, 4, 4, 5]);
+    assert_eq!(write(3, b"aen", &worked.pattern, &worked.text, 8192).unwrap(), WORKED.as_bytes());
+}
+
+#[test]
+fn aan_keeps_the_start_that_borders_lose() {
+    assert_eq!(found(Engine::Brute, "aan", "aa[an]n"), Found { hits: vec![0, 1], work: work(6, 0, 0) });
+    assert_eq!(found(Engine::Kmp, "aan", "aa[an]n"), Found { hits: vec![0, 1], work: work(4, 2, 0) });
+}
+
+#[test]
+fn an_after_three_others() {
+    assert_eq!(found(Engine::Hybrid, "an", "eeean"), Found { hits: vec![3], work: work(2, 0, 2) });
+    for engine in ENGINES {
+        assert_eq!(found(engine, "an", "eeean").hits, [3]);
+    }
+}
+
+#[test]
+fn one_letter_each() {
+    for engine in ENGINES {
+        assert_eq!(found(engine, "*", "*").hits, [0]);
+        assert_eq!(found(engine, "e", "a").hits, []);
+    }
+    assert_eq!(found(Engine::Brute, "e", "a").work, work(1, 0, 0));
+}
+
+#[test]
+fn a_pattern_longer_than_the_text() {
+    for engine in ENGINES {
+        assert_eq!(found(engine, "an", "a"), Found::default());
+        assert_eq!(found(engine, "an", ""), Found::default());
+    }
+}
+
+#[test]
+fn all_starts_of_aaa() {
+    for engine in ENGINES {
+        assert_eq!(found(engine, "a", "aaa").hits, [0, 1, 2]);
+    }
+}
+
+#[test]
+fn wrong_letters() {
+    for engine in ENGINES {
+        assert_eq!(search(engine, 3, &[1], &[1, 2, 8]), Err(Refusal { number: 5, place: 2 }));
+        assert_eq!(search(engine, 3, &[1, 0], &[1, 2, 8]), Err(Refusal { number: 4, place: 1 }));
+    }
+}
+
+#[test]
+fn products() {
+    assert_eq!(to_products(3, &[3, 4, 7], 3), Ok(vec![6, 5, 30]));
+    assert_eq!(from_products(3, &[6, 5, 30], 3), Ok(vec![3, 4, 7]));
+    assert_eq!(products_meet(3, 6, 10), Ok(true));
+    assert_eq!(products_meet(3, 6, 5), Ok(false));
+    for value in [0, 1, 4, 7] {
+        assert_eq!(from_products(3, &[value], 1), Err(Refusal { number: 7, place: 0 }));
+        assert_eq!(products_meet(3, value, 6), Err(Refusal { number: 7, place: 0 }));
+        assert_eq!(products_meet(3, 6, value), Err(Refusal { number: 7, place: 1 }));
+    }
+    assert_eq!(product(0x1ff), 223_092_870);
+}
+
+#[test]
+fn limits() {
+    let number = |k, m, n| search(Engine::Brute, k, &vec![1; m], &vec![1; n]).err().map(|r| r.number);
+    assert_eq!(number(0, 1, 1), Some(1));
+    assert_eq!(number(33, 1, 1), Some(1));
+    assert_eq!(number(32, 1, 1), None);
+    assert_eq!(number(3, 0, 1), Some(2));
+    assert_eq!(number(3, 65, 1), Some(2));
+    assert_eq!(number(3, 64, 1), None);
+    assert_eq!(number(3, 1, MAX_N), None);
+    assert_eq!(number(3, 1, MAX_N + 1), Some(3));
+}
+
+#[test]
+fn meeting_is_not_transitive() {
+    let (a, ae, e) = (1, 3, 2);
+    assert!(meets(a, ae) && meets(ae, e) && !meets(a, e));
+    assert!(single(a) && !single(ae) && !single(0));
+}
+
+#[test]
+fn the_greatest_over_all_members_counts() {
+    // e stands behind a in the pattern, so a doubt of both is found at e.
+    assert_eq!(r(&aen("aea"), 2), 1);
+    assert_eq!(r(&aen("ane"), 3), 2);
+    assert_eq!(r(&aen("an"), 2), -1);
+    assert_eq!(hits(&aen("ae"), &aen("a[ae]e")), [0, 1]);
+}
+
+/// Sheets that are refused, with number and place. The counts stand at bytes 0, 6 and 10, the lines at 2, 8 and 12,
+/// unless an earlier part is longer or shorter.
+const REFUSED: [(&str, u32, usize); 34] = [
+    ("", 11, 0),
+    ("3", 11, 0),
+    ("\n", 11, 0),
+    ("03\naen\n1\na\n1\na\n", 11, 0),
+    ("+3\naen\n1\na\n1\na\n", 11, 0),
+    (" 3\naen\n1\na\n1\na\n", 11, 0),
+    ("3\r\naen\r\n1\r\na\r\n1\r\na\r\n", 11, 0),
+    ("0\n\n1\na\n1\na\n", 1, 0),
+    ("33\naen\n1\na\n1\na\n", 1, 0),
+    ("3\nae\n1\na\n1\na\n", 12, 4),
+    ("3\naea\n1\na\n1\na\n", 12, 4),
+    ("3\na*n\n1\na\n1\na\n", 12, 3),
+    ("3\naenx\n1\na\n1\na\n", 12, 5),
+    ("3\naen", 12, 5),
+    ("3\naen\r\n1\na\n1\na\n", 12, 5),
+    ("3\naen\n", 11, 6),
+    ("3\naen\n\na\n1\na\n", 11, 6),
+    ("3\naen\n0\n\n1\na\n", 2, 6),
+    ("3\naen\n65\na\n1\na\n", 2, 6),
+    ("3\naen\n2\na\n1\na\n", 14, 6),
+    ("3\naen\n1\naa\n1\na\n", 14, 6),
+    ("3\naen\n1\nx\n1\na\n", 13, 8),
+    ("3\naen\n1\na", 13, 9),
+    ("3\naen\n1\na\n", 11, 10),
+    ("3\naen\n1\na\n00\n\n", 11, 10),
+    ("3\naen\n1\na\n65536\na\n", 14, 10),
+    ("3\naen\n1\na\n65537\na\n", 3, 10),
+    ("3\naen\n1\na\n99999\na\n", 3, 10),
+    ("3\naen\n1\na\n100000\na\n", 11, 10),
+    ("3\naen\n1\na\n1\n[a", 13, 14),
+    ("3\naen\n1\na\n1\naa[ea]\n", 13, 16),
+    ("3\naen\n1\na\n1\naa\nx", 14, 10),
+    ("3\naen\n1\na\n1\na\nx", 15, 14),
+    ("3\naen\n1\na\n1\na\n\n", 15, 14),
+];
+
+#[test]
+fn refused_sheets() {
+    for (sheet, number, place) in REFUSED {
+        assert_eq!(report(sheet.as_bytes()), Err(Refusal { number, place }), "{sheet:?}");
+    }
+}
+
+#[test]
+fn refused_lines() {
+    // Alphabet, text line, the wrong byte counted from the line's first one.
+    let rows = [
+        ("aen", "[ea]", 2),
+        ("aen", "[a]", 2),
+        ("aen", "[]", 1),
+        ("aen", "[n", 1),
+        ("aen", "[aen]", 3),
+        ("aen", "[aa", 2),
+        ("aen", "[a*", 2),
+        ("aen", "]", 0),
+        ("aen", "a n", 1),
+        ("aen", "a[ae]\r", 5),
+        ("ae", "a[ae]", 1),
+        ("ae", "**[", 2),
+        ("a", "a*", 1),
+        ("a", "[a]", 0),
+        ("abcd", "[abcd]", 4),
+        ("abcd", "[bcd][cd][d]", 10),
+    ];
+    for (alphabet, line, wrong) in rows {
+        let front = format!("{}\n{alphabet}\n1\na\n1\n", alphabet.len());
+        let sheet = format!("{front}{line}\n");
+        assert_eq!(report(sheet.as_bytes()), Err(Refusal { number: 13, place: front.len() + wrong }), "{sheet:?}");
+    }
+}
+
+#[test]
+fn the_empty_text_has_an_empty_line() {
+    let printed = String::from_utf8(printed(b"3\naen\n1\na\n0\n\n")).unwrap();
+    assert_eq!(printed, "hits 0\nbrute 0 0 0\nkmp 0 0 0\nbm 0 0 0\nsunday 0 0 0\nshiftand 0 0 0\nhybrid 0 0 0\n");
+}
