@@ -2,7 +2,6 @@
 //
 // A departure from the figures: where the pattern's end is the text's end no letter stands behind it, so none is read and the run ends; figure 5 reads one.
 use hits::work::Work;
-use hits::work::note;
 use inputs::checks::Text;
 use inputs::checks::checked;
 use inputs::refusal::Answer;
@@ -14,7 +13,7 @@ use pattern::after_r;
 use pattern::masks::Masks;
 use word::advance;
 use word::is_set;
-use word::start_of;
+use word::note_end;
 ghost use mathlib.Core.Path.{_≡_};
 ghost use Prim.Native.Nat.{_+_, _-_, _*_, _≤_, _<_};
 ghost use lib.ListN.{length};
@@ -52,7 +51,7 @@ fn steps_from(
     while e < n {
         d = advance(rows, t[e], d);
         e += 1;
-        count = note(list, count, start_of(e, m), is_set(d, m - 1));
+        count = note_end(list, count, e, m, is_set(d, m - 1));
         if d == 0 {
             return ran(a, e, count);
         }

@@ -1,6 +1,5 @@
 // The engine ShiftAnd: one word step a text letter, n in all when m is at most n. No tests.
 use hits::work::Work;
-use hits::work::note;
 use inputs::checks::Text;
 use inputs::checks::checked;
 use inputs::refusal::Answer;
@@ -10,7 +9,7 @@ use pattern::Pattern;
 use pattern::masks::Masks;
 use word::advance;
 use word::is_set;
-use word::start_of;
+use word::note_end;
 ghost use mathlib.Core.Path.{_≡_};
 ghost use Prim.Native.Nat.{_≤_, _<_};
 ghost use lib.ListN.{length};
@@ -62,7 +61,7 @@ fn run(p: &[u32], t: &[u32], list: &mut [u32]) -> Work
     let mut steps: u64 = 0;
     while read < n {
         let s = step(p, &rows, t, read, word);
-        total = note(list, total, start_of(s.read, m), s.hit);
+        total = note_end(list, total, s.read, m, s.hit);
         steps += 1;
         word = s.word;
         read = s.read;

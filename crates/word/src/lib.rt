@@ -1,9 +1,11 @@
 // The state of the word engines, held in one word of 64 bits.
+use hits::work::note;
 use letters::letter::Letter;
 use letters::members::union;
 ghost use mathlib.Core.Path.{_≡_};
-ghost use Prim.Native.Nat.{_-_, _<_};
+ghost use Prim.Native.Nat.{_+_, _-_, _<_};
 ghost use Rattle.letters.specs.Members.{members, unionOf};
+ghost use Rattle.hits.specs.Counts.{tally, noted};
 ghost use Rattle.word.specs.Word.{moved, isSet};
 
 // One word step. The bit that falls off the top is no loss: `mask` has no place for it.
@@ -29,11 +31,22 @@ pub fn is_set(d: u64, j: usize) -> bool
 }
 
 // Where a stretch of m letters that ends before e began; 0 where there is no such stretch.
-pub fn start_of(e: usize, m: usize) -> usize
+fn start_of(e: usize, m: usize) -> usize
     ensures { λ r. ⌜ r ≡ e - m ⌝ }
 {
     if e < m {
         return 0;
     }
     e - m
+}
+
+// Notes a hit of m letters that ends before e. Its start is worked out for a hit alone, so that a letter that ends none costs nothing here.
+pub fn note_end(list: &mut [u32], total: usize, e: usize, m: usize, hit: bool) -> usize
+    requires { ⌜ (total < 4294967296) × (e < 4294967296) ⌝ }
+    ensures { λ r. ⌜ (r ≡ total + tally hit) × (now (list .exit) ≡ noted hit (now (list .entry)) total (e - m)) ⌝ }
+{
+    if !hit {
+        return total;
+    }
+    note(list, total, start_of(e, m), true)
 }

@@ -36,9 +36,6 @@ advance-requires c κs = search needs
 add-e : tie.Need-add-e Inv-loop μ-loop
 add-e c = search needs
 
-start-of-requires : tie.Need-start-of-requires Inv-loop μ-loop
-start-of-requires c κs = search needs
-
 sub-is-set : tie.Need-sub-is-set Inv-loop μ-loop
 sub-is-set c = search needs
 
@@ -49,25 +46,22 @@ is-set-requires c κs = search needs
 few : (l : tie.At-loop Inv-loop μ-loop) → l .loop .count ≤ l .before .before .before .before .args .total + (l .loop .e - l .before .before .before .before .args .a)
 few l = let k = l .loop .inv .4 in omega (arith, k .counts, k .few)
 
-note-requires : tie.Need-note-requires Inv-loop μ-loop
-note-requires c κs =
-    let s = c .before in
-    let l = s .before .before .before .before .before in
-    omega (arith, few l, s .start-of .ensures)
+note-end-requires : tie.Need-note-end-requires Inv-loop μ-loop
+note-end-requires c κs =
+    let l = c .before .before .before .before .before in
+    omega (arith, few l)
 
 -- what one word step, with its hit noted, leaves
-one-step : (n : tie.After-note Inv-loop μ-loop) →
+one-step : (n : tie.After-note-end Inv-loop μ-loop) →
     let i = n .before in
-    let s = i .before in
-    let v = s .before .before in
+    let v = i .before .before in
     let l = v .before .before .before in
     let a = l .before .before .before .before .args in
-    (list : List ℕ) → list ≡ noted (i .is-set .result) (l .loop .list) (l .loop .count) (s .start-of .result) →
-    Kept (a .p .now) (a .t .now) (a .a) (a .list .now) (a .total) (l .loop .e + 1) (v .advance .result) (behind (a .p .now) (a .t .now) (l .loop .e + 1) (v .advance .result)) list (n .note .result)
+    (list : List ℕ) → list ≡ noted (i .is-set .result) (l .loop .list) (l .loop .count) (l .loop .e + 1 - length (a .p .now)) →
+    Kept (a .p .now) (a .t .now) (a .a) (a .list .now) (a .total) (l .loop .e + 1) (v .advance .result) (behind (a .p .now) (a .t .now) (l .loop .e + 1) (v .advance .result)) list (n .note-end .result)
 one-step n list h =
     let i = n .before in
-    let s = i .before in
-    let v = s .before .before in
+    let v = i .before .before in
     let l = v .before .before .before in
     let b = l .before .before .before .before in
     let a = b .args in
@@ -75,7 +69,7 @@ one-step n list h =
     let w : v .advance .result ≡ stepped (a .p .now) c (l .loop .d) =
     v .advance .ensures ∙ rows-step 32 (a .p .now) (a .rows .now) c (l .loop .d) (b .pre .5) (omega (arith, v .before .shared-slice-known3 .given (l .loop .e))) in
     step (a .p .now) (a .t .now) (a .a) (a .list .now) (a .total) (l .loop .e) (l .loop .d) (l .loop .list) (l .loop .count) (l .loop .inv .4)
-    (v .advance .result) list (n .note .result) (i .is-set .result) (s .start-of .result) (l .loop .inv .2) (omega arith) w (i .is-set .ensures) (s .start-of .ensures) h (n .note .ensures .0)
+    (v .advance .result) list (n .note-end .result) (i .is-set .result) (l .loop .e + 1 - length (a .p .now)) (l .loop .inv .2) (omega arith) w (i .is-set .ensures) refl h (n .note-end .ensures .0)
 
 ran-requires : tie.Need-ran-requires Inv-loop μ-loop
 ran-requires c κs = search needs
@@ -83,18 +77,18 @@ ran-requires c κs = search needs
 same-length-1 : tie.Need-same-length Inv-loop μ-loop
 same-length-1 c =
     let n = c .before .before .before .before in
-    let l = n .before .before .before .before .before .before .before in
+    let l = n .before .before .before .before .before .before in
     let a = l .before .before .before .before .args in
-    kept-length (a .p .now) (a .t .now) (a .a) (a .list .now) (a .total) _ _ _ _ (one-step n _ (n .note .ensures .1))
+    kept-length (a .p .now) (a .t .now) (a .a) (a .list .now) (a .total) _ _ _ _ (one-step n _ (n .note-end .ensures .1))
 
 returns : tie.Need-returns Inv-loop μ-loop
 returns c =
     let n = c .before .before .before .before in
-    let l = n .before .before .before .before .before .before .before in
+    let l = n .before .before .before .before .before .before in
     let b = l .before .before .before .before in
     let a = b .args in
     rw (c .ran .ensures)
-    (at-zero (a .p .now) (a .t .now) (a .a) (a .list .now) (a .total) _ _ _ _ (one-step n _ (n .note .ensures .1)) (b .pre .0) (b .pre .3) (omega arith))
+    (at-zero (a .p .now) (a .t .now) (a .a) (a .list .now) (a .total) _ _ _ _ (one-step n _ (n .note-end .ensures .1)) (b .pre .0) (b .pre .3) (omega arith))
 
 loop-less : tie.Need-loop-less Inv-loop μ-loop
 loop-less c = search needs
@@ -102,13 +96,13 @@ loop-less c = search needs
 loop-again : tie.Need-loop-again Inv-loop μ-loop
 loop-again c =
     let n = c .before .before .before in
-    let l = n .before .before .before .before .before .before .before in
+    let l = n .before .before .before .before .before .before in
     let a = l .before .before .before .before .args in (
       refl,
       refl,
       omega arith,
       omega arith,
-      alive-on (a .p .now) (a .t .now) (a .a) (a .list .now) (a .total) _ _ _ _ (one-step n _ (n .note .ensures .1)) (λ z. omega arith),
+      alive-on (a .p .now) (a .t .now) (a .a) (a .list .now) (a .total) _ _ _ _ (one-step n _ (n .note-end .ensures .1)) (λ z. omega arith),
     )
 
 ran-requires-2 : tie.Need-ran-requires-2 Inv-loop μ-loop
@@ -139,10 +133,9 @@ steps-from-spec =
     shared-slice-read-advance
     advance-requires
     add-e
-    start-of-requires
     sub-is-set
     is-set-requires
-    note-requires
+    note-end-requires
     ran-requires
     same-length-1
     returns

@@ -1,6 +1,6 @@
 -- `shiftand::run` meets its contract: the loop keeps `SoFar`, which has what the state means in it. Assumes nothing.
 use Prim.Native.Nat.{ℕ, suc, _+_, _-_, _≤_, _<_}
-use mathlib.Core.Path.{_≡_, refl, sym, ap, _∙_}
+use mathlib.Core.Path.{_≡_, refl, sym, ap}
 use mathlib.Core.Bool.{true}
 use mathlib.Core.List.{List}
 use native.Mathlib.Omega.{arith}
@@ -55,9 +55,6 @@ step-requires c κs =
     let l = c .before .before in
     (omega arith, omega arith, omega arith, l .before .before .of .ensures)
 
-start-of-requires : tie.Need-start-of-requires Inv-loop μ-loop
-start-of-requires c κs = search needs
-
 -- what a pass of the loop knows of its step
 record Facts (P T : List ℕ) (read word : ℕ) (next : ℕ) : Type 0 where
   goes : unread P T (at read word) ≡ true
@@ -76,33 +73,31 @@ facts k =
       one-on = ap (λ (x : Turn Reading). x .next .read) (k .step .ensures);
     }
 
-note-requires : tie.Need-note-requires Inv-loop μ-loop
-note-requires c κs =
-    let k = c .before .before in
+note-end-requires : tie.Need-note-end-requires Inv-loop μ-loop
+note-end-requires c κs =
+    let k = c .before in
     let l = k .before .before .before in
     let s = l .before .before .before .before .before .before .before in
     let a = s .args in
     let q = l .loop .inv .4 in
     let few : l .loop .total ≤ suc (length (a .t .now)) = total-le (sound (a .p .now) (a .t .now) (q .some)) (a .list .now) _ _ _ (q .far) in
-    omega (arith, s .pre .2, facts k .one-on, c .start-of .ensures)
+    omega (arith, s .pre .2, facts k .one-on)
 
 add-steps : tie.Need-add-steps Inv-loop μ-loop
 add-steps c = search needs
 
 loop-less : tie.Need-loop-less Inv-loop μ-loop
-loop-less c = omega (arith, facts (c .before .before .before .before .before) .one-on)
+loop-less c = omega (arith, facts (c .before .before .before .before) .one-on)
 
 loop-again : tie.Need-loop-again Inv-loop μ-loop
 loop-again c =
     let n = c .before .before in
-    let i = n .before in
-    let k = i .before .before in
+    let k = n .before .before in
     let l = k .before .before .before in
     let a = l .before .before .before .before .before .before .before .args in
     let q = l .loop .inv .4 in
     let w = facts k in
-    let e = k .step .ensures in
-    let z : i .start-of .result ≡ k .step .result .read - length (a .p .now) = i .start-of .ensures ∙ refl in (
+    let e = k .step .ensures in (
       refl,
       refl,
       omega (arith, w .one-on),
@@ -111,11 +106,11 @@ loop-again c =
         some = q .some;
         fits = q .fits;
         far =
-            pass-one (sound (a .p .now) (a .t .now) (q .some)) (a .list .now) (at (l .loop .read) (l .loop .word)) (l .loop .list) _ (q .far) (w .goes) _ _ _ (k .step .result .hit) (i .start-of .result)
+            pass-one (sound (a .p .now) (a .t .now) (q .some)) (a .list .now) (at (l .loop .read) (l .loop .word)) (l .loop .list) _ (q .far) (w .goes) _ _ _ (k .step .result .hit) (k .step .result .read - length (a .p .now))
             (ap (λ (x : Turn Reading). x .next) e)
-            (rw z (ap (λ (x : Turn Reading). x .found) (sym e)))
-            (n .note .ensures .1)
-            (n .note .ensures .0)
+            (ap (λ (x : Turn Reading). x .found) (sym e))
+            (n .note-end .ensures .1)
+            (n .note-end .ensures .0)
             (ap (λ (x : Turn Reading). 0 + x .scan) e)
             (ap (λ (x : Turn Reading). 0 + x .shift) e)
             (ap (λ (x : Turn Reading). l .loop .steps + x .steps) e);
@@ -152,8 +147,7 @@ run-spec =
     of-requires
     loop-holds
     step-requires
-    start-of-requires
-    note-requires
+    note-end-requires
     add-steps
     loop-less
     loop-again
