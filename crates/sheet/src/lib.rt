@@ -25,6 +25,13 @@ pub struct Sheet {
 impl Sheet {
     // The longest sheet.
     pub const MAX_BYTES: usize = 8192;
+
+    // It as a number: a contract that hands over the constant follows it wherever it goes, and this one does not.
+    pub fn pinned() -> usize
+        ensures { λ r. ⌜ r ≡ 8192 ⌝ }
+    {
+        Sheet::MAX_BYTES
+    }
 }
 
 // How many letters the alphabet, the pattern and the text have.

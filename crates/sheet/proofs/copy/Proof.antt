@@ -1,3 +1,4 @@
+-- `sheet::copy` meets its contract: the bytes so far lie over the list's front. Assumes nothing.
 use borrow.Author.Needs.{needs}
 use native.Mathlib.Omega.{arith}
 use mathlib.Core.Path.{_≡_, refl, sym, ap, _∙_, ap₂}

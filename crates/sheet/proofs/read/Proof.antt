@@ -1,3 +1,4 @@
+-- `sheet::read` meets its contract: what was found in the sections decides the case, and is then written. Assumes nothing.
 use borrow.Author.Needs.{needs}
 use native.Mathlib.Omega.{arith}
 use mathlib.Core.Path.{_≡_, sym, ap, _∙_, ap₂}

@@ -1,3 +1,4 @@
+-- `writer::check` meets its contract: the tests on the way say which case holds. Assumes nothing.
 use borrow.Author.Needs.{needs}
 use mathlib.Core.Path.{sym, _∙_}
 use Prim.Native.Nat.{_-_}

@@ -1,3 +1,4 @@
+-- `writer::write` meets its contract: what the checks say picks the case. Assumes nothing.
 use borrow.Author.Needs.{needs}
 use native.Mathlib.Omega.{arith}
 use mathlib.Core.Path.{_≡_, sym, _∙_}

@@ -1,3 +1,4 @@
+-- `notation::alphabet::look_up` meets its contract. Assumes nothing.
 use Prim.Native.Nat.{ℕ}
 use mathlib.Core.Path.{ap, _∙_}
 use lib.ListN.{getD}

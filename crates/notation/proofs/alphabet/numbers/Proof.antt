@@ -1,3 +1,4 @@
+-- `notation::alphabet::numbers` meets its contract: the table holds the numbers of the letters stored so far, from the last on. Assumes nothing.
 use Prim.Native.Nat.{ℕ, suc, _+_, _-_, _≤_, _<_}
 use mathlib.Core.Path.{_≡_, ap, ap₂, _∙_}
 use native.Mathlib.Omega.{arith}

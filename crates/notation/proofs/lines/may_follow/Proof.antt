@@ -14,7 +14,9 @@ returns c = rw (le-ltb _ _ (c .if1 .taken))
 
 returns-2 : tie.Need-returns-2
 unfolding mayFollow
-returns-2 c = rw (lt-ltb _ _ (c .before .if1 .left), lt-leb _ _ (c .if2 .taken))
+returns-2 c =
+    let a = c .before .before .args in
+    rw (lt-ltb (a .j) (a .k) (c .before .if1 .left), lt-leb (a .above) (a .j) (c .if2 .taken))
 
 add-if3 : tie.Need-add-if3
 add-if3 c = search needs
@@ -23,13 +25,13 @@ returns-3 : tie.Need-returns-3
 unfolding mayFollow
 returns-3 c =
     let a = c .before .before .before .args in
-    rw (lt-ltb _ _ (c .before .before .if1 .left), le-leb _ _ (c .before .if2 .left), le-ltb (suc (a .count)) (a .k) (omega arith))
+    rw (lt-ltb _ _ (c .before .before .if1 .left), le-leb (a .above) (a .j) (c .before .if2 .left), le-ltb (suc (a .count)) (a .k) (omega arith))
 
 returns-4 : tie.Need-returns-4
 unfolding mayFollow
 returns-4 c =
     let a = c .before .before .before .before .args in
-    rw (lt-ltb _ _ (c .before .before .before .if1 .left), le-leb _ _ (c .before .before .if2 .left), lt-ltb (suc (a .count)) (a .k) (omega arith), le-leb _ _ (c .if4 .taken))
+    rw (lt-ltb _ _ (c .before .before .before .if1 .left), le-leb (a .above) (a .j) (c .before .before .if2 .left), lt-ltb (suc (a .count)) (a .k) (omega arith), le-leb 1 (a .count) (c .if4 .taken))
 
 add-result : tie.Need-add-result
 add-result c = search needs
@@ -38,7 +40,7 @@ returns-5 : tie.Need-returns-5
 unfolding mayFollow
 returns-5 c =
     let a = c .before .before .before .before .args in
-    rw (lt-ltb _ _ (c .before .before .before .if1 .left), le-leb _ _ (c .before .before .if2 .left), lt-ltb (suc (a .count)) (a .k) (omega arith), lt-leb _ _ (c .if4 .left), add-one (a .j))
+    rw (lt-ltb _ _ (c .before .before .before .if1 .left), le-leb (a .above) (a .j) (c .before .before .if2 .left), lt-ltb (suc (a .count)) (a .k) (omega arith), lt-leb 1 (a .count) (c .if4 .left), add-one (a .j))
 
 pub may-follow-spec : {M : Type 1} → statement M
 may-follow-spec =

@@ -1,3 +1,4 @@
+-- `sheet::sections::alphabet_section` meets its contract: the tests on the way say which case holds. Assumes nothing.
 use borrow.Author.Needs.{needs}
 use native.Mathlib.Omega.{arith}
 use mathlib.Core.Path.{_≡_, sym, _∙_}

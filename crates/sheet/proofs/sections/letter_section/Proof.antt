@@ -1,3 +1,4 @@
+-- `sheet::sections::letter_section` meets its contract: the tests on the way say which case holds. Assumes nothing.
 use borrow.Author.Needs.{needs}
 use mathlib.Core.Path.{_≡_, sym, _∙_}
 use Prim.Native.Nat.{_-_}

@@ -1,3 +1,4 @@
+-- `sheet::sections::string_sections` meets its contract: the pattern's section first, then the text's from where that ends. Assumes nothing.
 use borrow.Author.Needs.{needs}
 use native.Mathlib.Omega.{arith}
 use mathlib.Core.Path.{_≡_, sym, ap, _∙_}

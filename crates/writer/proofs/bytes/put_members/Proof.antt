@@ -1,3 +1,4 @@
+-- `writer::bytes::put_members` meets its contract: the members from j on are left to write. Assumes nothing.
 use borrow.Author.Needs.{needs}
 use native.Mathlib.Omega.{arith}
 use mathlib.Core.Path.{ap, _∙_}
