@@ -1,0 +1,4 @@
+pub mod ValueLaws
+pub mod RoomLaws
+pub mod BoundLaws
+pub mod PromiseLaws

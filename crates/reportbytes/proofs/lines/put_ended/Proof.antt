@@ -1,0 +1,44 @@
+-- `reportbytes::lines::put_ended` meets its contract. Assumes nothing.
+use Prim.Native.Nat.{_-_}
+use mathlib.Core.Path.{refl}
+use mathlib.Core.List.{[], _∷_}
+use native.Mathlib.Omega.{arith}
+use borrow.Author.Needs.{needs}
+use Rattle.decimal.specs.Decimal.{decimal}
+use Rattle.decimal.proofs.StoreLaws.{sets-on}
+use Rattle.reportbytes.specs.Bytes.{ended}
+use Rattle.reportbytes.proofs.LineLaws.{ended-length}
+use Rattle.reportbytes.proofs.lines.put_ended.Statement.{statement}
+use Rattle.reportbytes.proofs.lines.put_ended.Tie as tie
+
+put-requires : tie.Need-put-requires
+put-requires c κs =
+    let st = c .before .before in
+    omega (arith, st .pre, ended-length (st .args .n) (st .args .after))
+
+slice-write-out : tie.Need-slice-write-out
+slice-write-out c =
+    let p = c .before .before in
+    let st = p .before .before .before in
+    omega (arith, st .pre, ended-length (st .args .n) (st .args .after), p .put .ensures .0, p .put .kept)
+
+add-result : tie.Need-add-result
+add-result c =
+    let p = c .before .before in
+    let st = p .before .before .before in
+    omega (arith, st .pre, ended-length (st .args .n) (st .args .after), p .put .ensures .0, st .good)
+
+same-length : tie.Need-same-length
+same-length c = search needs
+
+returns : tie.Need-returns
+unfolding ended
+returns c =
+    let p = c .before .before in
+    let st = p .before .before .before in (
+      omega (arith, ended-length (st .args .n) (st .args .after), p .put .ensures .0),
+      sets-on (st .args .out .now) _ _ (st .args .at) (p .put .result) (decimal (st .args .n)) (st .args .after ∷ []) (p .put .ensures .1) (p .put .ensures .0) refl,
+    )
+
+pub put-ended-spec : {M : Type 1} → statement M
+put-ended-spec = tie.close (tie.spec put-requires slice-write-out add-result same-length returns)
