@@ -33,7 +33,7 @@ extern "C" {
 #define BREAKWARP_MAX_N 65536       /* letters of a text or of a converted string */
 #define BREAKWARP_MAX_PRODUCT_K 9   /* base letters where products are asked for */
 #define BREAKWARP_MAX_SHEET 8192    /* bytes of a search sheet */
-#define BREAKWARP_MAX_REPORT 41216  /* no report of an accepted sheet is longer: lend so much, and 8 cannot come */
+#define BREAKWARP_MAX_REPORT 40000  /* no report of an accepted sheet is longer: lend so much, and 8 cannot come */
 
 /* Refusals: a call that is refused returns minus one of these. */
 #define BREAKWARP_REFUSED_K 1            /* k is 0 or above 32 */

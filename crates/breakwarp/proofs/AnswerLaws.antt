@@ -1,8 +1,10 @@
 -- A shell over one library call keeps its promise: the call's answer, as a number, is the number that is due. Assumes nothing.
 use mathlib.Core.Path.{_≡_, refl, ap, _∙_}
+use mathlib.Core.Bool.{Bool, true, false}
 use mathlib.Core.List.{List, map}
 use Prim.Native.Nat.{ℕ, _≤_}
 use native.Mathlib.Omega.{arith}
+use lib.Dec.{ltb}
 use lib.ListN.{length, length-map}
 use lib.IntN.{ℤ}
 use Rattle.promise.specs.Promised.{Promised}
@@ -12,7 +14,13 @@ use Rattle.products.specs.Conversions.{convertedOf}
 use Rattle.sheet.specs.Bytes.{sheetBytes}
 use Rattle.writer.specs.Writer.{answerOf, writing, checks, sizes, both}
 use Rattle.writer.proofs.CheckLaws.{sizes-passed}
+use Rattle.sheet.specs.Reader.{Outcome, found, refused, Strings, refuse, andThen}
+use Rattle.reportbytes.specs.Bytes.{bytesOf}
+use Rattle.report.specs.Values.{valuesOf}
+use Rattle.report.specs.Report.{readAlone, fitting, reportFor, answerOf as answerOfReport}
+use Rattle.report.proofs.PromiseLaws.{report-bound}
 use Rattle.breakwarp.specs.Conversions.{doneOf}
+use Rattle.breakwarp.specs.Reports.{reportedOf}
 use Rattle.breakwarp.specs.Sheets.{wroteOf}
 
 -- what is told of an answer that is due, is due
@@ -36,3 +44,16 @@ writing-fits B K M N k A P T room e = sizes-passed B room (length (sheetBytes A 
     go : (c d : Check) → both c d ≡ Passed → d ≡ Passed
     go (Refused r) d e = cc
     go Passed d e = e
+
+-- so is a report
+pub report-small : (s : List ℕ) (room : ℕ) → reportedOf (answerOfReport (reportFor 8192 32 64 65536 s room)) ≤ 65537
+unfolding reportFor fitting refuse
+report-small s room = go (readAlone 8192 32 64 65536 s) refl
+  where
+    fit : (b : List ℕ) (t : Bool) → length b ≤ 40000 → reportedOf (answerOfReport (refuse t 8 0 (found b))) ≤ 65537
+    fit b true h = omega arith
+    fit b false h = omega arith
+
+    go : (o : Outcome Strings) → readAlone 8192 32 64 65536 s ≡ o → reportedOf (answerOfReport (andThen o (λ w. fitting room (bytesOf (valuesOf (w .pattern) (w .text)))))) ≤ 65537
+    go (found w) e = fit (bytesOf (valuesOf (w .pattern) (w .text))) (ltb room (length (bytesOf (valuesOf (w .pattern) (w .text))))) (report-bound s w e)
+    go (refused number place) e = omega arith

@@ -4,3 +4,4 @@ pub mod Answered
 pub mod Conversions
 pub mod Sheets
 pub mod Readings
+pub mod Reports

@@ -2,5 +2,6 @@
 pub mod codes;
 pub mod conversions;
 pub mod readings;
+pub mod reports;
 pub mod searches;
 pub mod sheets;

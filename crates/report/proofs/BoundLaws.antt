@@ -1,8 +1,8 @@
 -- How long the report of an accepted sheet can be: its text has fewer than 8,192 letters, so a start has 4 digits at most, and no count more than 6. Assumes nothing.
-use mathlib.Core.Path.{_≡_, refl, sym, ap, _∙_}
-use mathlib.Core.Bool.{Bool, true, false}
-use mathlib.Core.List.{List, [], _∷_, _++_}
 use Prim.Native.Nat.{ℕ, zero, suc, _+_, _-_, _*_, _^_, _≤_, _<_}
+use mathlib.Core.Path.{_≡_, refl, ap, _∙_}
+use mathlib.Core.Bool.{Bool}
+use mathlib.Core.List.{List, [], _∷_, _++_}
 use native.Mathlib.Nat.{mul-suc, mul-le-mul-left, mul-le-mul-right}
 use native.Mathlib.Omega.{arith}
 use lib.ListN.{length, length-append}
@@ -13,22 +13,22 @@ use Rattle.hits.proofs.HitLaws.{from-add, from-enough, length-hits}
 use Rattle.hits.proofs.RunLaws.{run-stop, run-on}
 use Rattle.inputs.specs.Refusals.{verdict}
 use Rattle.inputs.specs.declared.refusal.Check.the-variants.{Passed}
-use Rattle.inputs.proofs.CheckLaws.{Sized, sized}
+use Rattle.inputs.proofs.CheckLaws.{sized}
 use Rattle.brute.specs.Brute.{bruteTurn, bruteRun}
 use Rattle.brute.proofs.BruteLaws.{brute-scan}
 use Rattle.kmp.specs.Kmp.{At, kmpTurn, kmpRun}
-use Rattle.kmp.proofs.KmpLaws as kmp
 use Rattle.bm.specs.Bm.{bmTurn, bmRun}
-use Rattle.bm.proofs.BmLaws as bm
 use Rattle.sunday.specs.Sunday.{sundayTurn, sundayRun}
 use Rattle.sunday.proofs.SundayLaws.{sunday-scan}
 use Rattle.shiftand.specs.ShiftAnd.{shiftandRun}
 use Rattle.shiftand.proofs.ShiftAndLaws.{shiftand-scan, shiftand-shift, shiftand-small}
-use Rattle.hybrid.specs.Hybrid.{hybridTurn, hybridRun}
+use Rattle.hybrid.specs.Hybrid.{hybridRun}
 use Rattle.hybrid.proofs.HybridLaws.{no-shift, hybrid-scan, hybrid-steps}
 use Rattle.reportbytes.specs.Bytes.{ended, startLines, counts, engineLines, bytesOf}
 use Rattle.reportbytes.proofs.LineLaws.{ended-short, counts-length, engines-length, bytes-length}
 use Rattle.report.specs.Values.{valuesOf}
+use Rattle.kmp.proofs.KmpLaws as kmp
+use Rattle.bm.proofs.BmLaws as bm
 
 -- a rule whose turns never add to a count
 module _ {S : Type 0} (more : S → Bool) (turn : S → Turn S) (cost : Run → ℕ) (own : Turn S → ℕ) (none : cost idle ≡ 0) (adds : (t : Turn S) (r : Run) → cost (after t r) ≡ own t + cost r) (free : (s : S) → own (turn s) ≡ 0) where

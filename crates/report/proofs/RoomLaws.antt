@@ -1,8 +1,8 @@
 -- How much room a reading is given does not matter, if it is enough; and then it is never refused with 8. Assumes nothing.
-use mathlib.Core.Path.{_≡_, refl, ap, sym, _∙_, subst}
+use Prim.Native.Nat.{ℕ, suc, _≤_, _<_}
+use mathlib.Core.Path.{_≡_, refl, ap, subst}
 use mathlib.Core.Bool.{Bool, true, false, not, _||_}
 use mathlib.Core.List.{List, [], _∷_}
-use Prim.Native.Nat.{ℕ, suc, _+_, _≤_, _<_}
 use native.Mathlib.Omega.{arith}
 use borrow.Author.Tests.{le-ltb, ltb-false, eqb-true, not-false}
 use lib.Dec.{eqb, ltb}
@@ -17,8 +17,7 @@ use Rattle.notation.specs.declared.alphabet.Bytes.{Bytes}
 use Rattle.notation.specs.declared.alphabet.Bytes.the-variants.{After, Wrong as BytesWrong}
 use Rattle.notation.proofs.AlphabetLaws.{alphabet-read}
 use Rattle.notation.proofs.ReadLaws.{more-got}
-use Rattle.sheet.specs.Reader.{Outcome, found, refused, refuse, andThen, onCount, onAlphabet, onLetters, Section, alphabetSection, letterSection, patternBounds, textBounds, Sections, stringSections, Strings, reading}
-use Rattle.sheet.specs.declared.sections.Bounds.{Bounds}
+use Rattle.sheet.specs.Reader.{Outcome, found, refused, refuse, andThen, onCount, onAlphabet, onLetters, alphabetSection, letterSection, stringSections, Strings, reading}
 
 -- a line has fewer letters than bytes
 pub scan-short : (A s : List ℕ) (σ : State) (at : ℕ) (cs : List ℕ) (e : ℕ) → scan A σ at s ≡ got cs e → length cs < length s

@@ -1,7 +1,7 @@
 -- What the engines counted and listed, where the search passed its checks. Assumes nothing.
+use Prim.Native.Nat.{ℕ}
 use mathlib.Core.Path.{_≡_, ap, _∙_}
 use mathlib.Core.List.{List}
-use Prim.Native.Nat.{ℕ}
 use Rattle.hits.specs.Hits.{hits, over}
 use Rattle.hits.specs.Turns.{Run}
 use Rattle.hits.specs.Counts.{workOf}

@@ -1,29 +1,11 @@
+-- `report::of_sheet` meets its contract: what the reader answers picks the case. Assumes nothing.
+use mathlib.Core.Path.{_≡_, sym}
 use borrow.Author.Needs.{needs}
-use native.Mathlib.Omega.{arith}
-use mathlib.Core.Path.{_≡_, refl, sym, ap, _∙_}
-use mathlib.Core.Bool.{Bool, true, false}
-use mathlib.Core.Logic.{⊎-elim}
-use mathlib.Core.List.{List}
-use Prim.Native.Nat.{ℕ, zero, suc, _+_, _-_, _*_, _≤_, _<_, min, max}
-use borrow.Author.Tests.{not-true, not-false}
-use lib.ListN.{length, getD, set}
-use lib.ListN.{length, take}
+use lib.ListN.{length}
 use lib.Seq.{length-take-le}
-use Rattle.hits.specs.Hits.{over}
-use Rattle.hits.proofs.ListLaws.{length-over}
-use Rattle.inputs.specs.Refusals.{verdict}
-use Rattle.inputs.specs.declared.refusal.Check.the-variants.{Passed}
-use Rattle.sheet.specs.Reader.{found, Strings, reading}
-use Rattle.reportbytes.specs.Bytes.{bytesOf}
-use Rattle.report.specs.Values.{valuesOf}
-use Rattle.report.specs.Report.{readAlone, fitting, Written}
 use Rattle.report.proofs.PromiseLaws.{Got, got-read, got-refused, searchable, sheet-refused, sheet-read}
 use Rattle.report.proofs.of_sheet.Statement.{statement}
 use Rattle.report.proofs.of_sheet.Tie as tie
-use Rattle.report.proofs.of_sheet.Reads as reads
-use Rattle.report.proofs.of_sheet.Lts as lts
-use Rattle.report.proofs.of_strings.Reads as of-strings-reads
-use Rattle.sheet.proofs.read.Reads as read-reads
 
 -- the lists that the reader is lent
 lent : (c : tie.After-read) → (length (c .read .last .1 .0) ≡ 32) × (length (c .read .last .1 .1 .0) ≡ 64) × (length (c .read .last .1 .1 .1 .0) ≡ 8192)

@@ -1,29 +1,20 @@
-use borrow.Author.Needs.{needs}
+-- `report::of_strings` meets its contract: all starts are listed, so that what was counted has the report of the values. Assumes nothing.
+use Prim.Native.Nat.{_≤_}
+use mathlib.Core.Path.{_≡_, ap, _∙_}
 use native.Mathlib.Omega.{arith}
-use mathlib.Core.Path.{_≡_, refl, sym, ap, _∙_}
-use mathlib.Core.Bool.{Bool, true, false}
-use mathlib.Core.Logic.{⊎-elim}
-use mathlib.Core.List.{List}
-use Prim.Native.Nat.{ℕ, zero, suc, _+_, _-_, _*_, _≤_, _<_, min, max}
-use borrow.Author.Tests.{not-true, not-false}
-use lib.ListN.{length, getD, set}
-use Rattle.hits.specs.Hits.{hits, over}
-use Rattle.hits.proofs.HitLaws.{length-hits}
-use Rattle.hits.proofs.ListLaws.{length-over}
-use Rattle.decimal.proofs.StoreLaws.{sets-over}
+use borrow.Author.Needs.{needs}
+use lib.ListN.{length}
 use lib.Seq.{sets}
+use Rattle.hits.specs.Hits.{hits}
+use Rattle.hits.proofs.HitLaws.{length-hits}
+use Rattle.decimal.proofs.StoreLaws.{sets-over}
 use Rattle.reportbytes.specs.Bytes.{bytesOf}
 use Rattle.reportbytes.specs.Counted.{valuesIn}
 use Rattle.reportbytes.specs.declared.Six.{Six}
-use Rattle.report.specs.Values.{valuesOf, sixOf}
+use Rattle.report.specs.Values.{valuesOf}
 use Rattle.report.proofs.PromiseLaws.{bytes-same, too-short, fits}
 use Rattle.report.proofs.of_strings.Statement.{statement}
 use Rattle.report.proofs.of_strings.Tie as tie
-use Rattle.report.proofs.of_strings.Reads as reads
-use Rattle.report.proofs.of_strings.Lts as lts
-use Rattle.report.proofs.values.searched.Reads as searched-reads
-use Rattle.reportbytes.proofs.lengths.report_len.Reads as report-len-reads
-use Rattle.reportbytes.proofs.lines.put_report.Reads as put-report-reads
 
 -- the list has 8,192 places
 size : (c : tie.After-searched) → length (c .searched .last .1 .1 .1 .0) ≡ 8192

@@ -1,12 +1,5 @@
+-- `report::values::searched` meets its contract: no search is refused, so each answers what its rule counts. Assumes nothing.
 use borrow.Author.Needs.{needs}
-use native.Mathlib.Omega.{arith}
-use mathlib.Core.Path.{_≡_, refl, sym, ap, _∙_}
-use mathlib.Core.Bool.{Bool, true, false}
-use mathlib.Core.Logic.{⊎-elim}
-use mathlib.Core.List.{List}
-use Prim.Native.Nat.{ℕ, zero, suc, _+_, _-_, _*_, _≤_, _<_, min, max}
-use borrow.Author.Tests.{not-true, not-false}
-use lib.ListN.{length, getD, set}
 use Rattle.brute.specs.Brute.{bruteRun}
 use Rattle.kmp.specs.Kmp.{kmpRun}
 use Rattle.bm.specs.Bm.{bmRun}
@@ -16,15 +9,6 @@ use Rattle.hybrid.specs.Hybrid.{hybridRun}
 use Rattle.report.proofs.ValueLaws.{counted, listed, six-same}
 use Rattle.report.proofs.values.searched.Statement.{statement}
 use Rattle.report.proofs.values.searched.Tie as tie
-use Rattle.report.proofs.values.searched.Reads as reads
-use Rattle.report.proofs.values.searched.Lts as lts
-use Rattle.bm.proofs.search.Reads as search-reads
-use Rattle.brute.proofs.search.Reads as search-reads′
-use Rattle.hybrid.proofs.search.Reads as search-reads′′
-use Rattle.kmp.proofs.search.Reads as search-reads′′′
-use Rattle.report.proofs.values.work_in.Reads as work-in-reads
-use Rattle.shiftand.proofs.search.Reads as search-reads′′′′
-use Rattle.sunday.proofs.search.Reads as search-reads′′′′′
 
 search-requires : tie.Need-search-requires
 search-requires c κs = search needs

@@ -1,17 +1,9 @@
+-- `report::values::work_in` meets its contract. Assumes nothing.
+use mathlib.Core.Path.{sym, ap}
 use borrow.Author.Needs.{needs}
-use native.Mathlib.Omega.{arith}
-use mathlib.Core.Path.{_≡_, refl, sym, ap, _∙_}
-use mathlib.Core.Bool.{Bool, true, false}
-use mathlib.Core.Logic.{⊎-elim}
-use mathlib.Core.List.{List}
-use Prim.Native.Nat.{ℕ, zero, suc, _+_, _-_, _*_, _≤_, _<_, min, max}
-use borrow.Author.Tests.{not-true, not-false}
-use lib.ListN.{length, getD, set}
 use Rattle.report.specs.Values.{workIn}
 use Rattle.report.proofs.values.work_in.Statement.{statement}
 use Rattle.report.proofs.values.work_in.Tie as tie
-use Rattle.report.proofs.values.work_in.Reads as reads
-use Rattle.report.proofs.values.work_in.Lts as lts
 
 enum-known-a : tie.Need-enum-known-a
 enum-known-a c = search needs

@@ -1,5 +1,4 @@
 -- `reportbytes::lengths::counts_len` meets its contract. Assumes nothing.
-use Prim.Native.Nat.{_-_}
 use native.Mathlib.Omega.{arith}
 use borrow.Author.Needs.{needs}
 use Rattle.reportbytes.specs.Counted.{runIn}

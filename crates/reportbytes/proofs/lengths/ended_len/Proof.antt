@@ -1,5 +1,4 @@
 -- `reportbytes::lengths::ended_len` meets its contract. Assumes nothing.
-use Prim.Native.Nat.{_-_}
 use native.Mathlib.Omega.{arith}
 use borrow.Author.Needs.{needs}
 use Rattle.reportbytes.proofs.LineLaws.{ended-length, ended-fits}

@@ -1,4 +1,4 @@
--- `reportbytes::lengths::starts_len` meets its contract. Assumes nothing.
+-- `reportbytes::lengths::starts_len` meets its contract. The loop keeps that the sum, with the lines of the starts from i on, is the whole. Assumes nothing.
 use Prim.Native.Nat.{ℕ, _+_, _-_, _*_, _≤_, _<_}
 use mathlib.Core.Path.{_≡_, ap, _∙_}
 use native.Mathlib.Omega.{arith}

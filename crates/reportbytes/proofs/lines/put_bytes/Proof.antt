@@ -1,4 +1,4 @@
--- `reportbytes::lines::put_bytes` meets its contract. Assumes nothing.
+-- `reportbytes::lines::put_bytes` meets its contract. The loop keeps that the first i bytes are written. Assumes nothing.
 use Prim.Native.Nat.{ℕ, _+_, _-_, _≤_}
 use mathlib.Core.Path.{_≡_, refl, sym, ap, _∙_}
 use mathlib.Core.List.{[], _∷_, _++_}

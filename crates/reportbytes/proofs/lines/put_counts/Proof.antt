@@ -1,5 +1,4 @@
--- `reportbytes::lines::put_counts` meets its contract. Assumes nothing.
-use Prim.Native.Nat.{_+_, _-_}
+-- `reportbytes::lines::put_counts` meets its contract: after each count, what is left to write. Assumes nothing.
 use mathlib.Core.List.{_++_}
 use borrow.Author.Needs.{needs}
 use Rattle.reportbytes.proofs.LineLaws.{so-front, so-next, so-back, so-last}

@@ -1,5 +1,4 @@
 -- `reportbytes::lines::put_ended` meets its contract. Assumes nothing.
-use Prim.Native.Nat.{_-_}
 use mathlib.Core.Path.{refl}
 use mathlib.Core.List.{[], _∷_}
 use native.Mathlib.Omega.{arith}

@@ -1,5 +1,4 @@
--- `reportbytes::lines::put_engine` meets its contract. Assumes nothing.
-use Prim.Native.Nat.{_-_}
+-- `reportbytes::lines::put_engine` meets its contract: the name, then the counts. Assumes nothing.
 use borrow.Author.Needs.{needs}
 use Rattle.decimal.proofs.StoreLaws.{SoFar, so-none}
 use Rattle.reportbytes.specs.Bytes.{counts, engineLine}

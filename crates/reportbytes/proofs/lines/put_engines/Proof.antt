@@ -1,5 +1,5 @@
--- `reportbytes::lines::put_engines` meets its contract. Assumes nothing.
-use Prim.Native.Nat.{ℕ, _+_, _-_}
+-- `reportbytes::lines::put_engines` meets its contract: after each line, what is left to write. Assumes nothing.
+use Prim.Native.Nat.{ℕ}
 use mathlib.Core.List.{List, [], _++_}
 use borrow.Author.Needs.{needs}
 use Rattle.decimal.proofs.StoreLaws.{SoFar, so-none}

@@ -1,5 +1,5 @@
--- `reportbytes::lines::put_report` meets its contract. Assumes nothing.
-use Prim.Native.Nat.{_+_, _-_, _≤_}
+-- `reportbytes::lines::put_report` meets its contract: after each part, what is left to write. Assumes nothing.
+use Prim.Native.Nat.{_+_, _≤_}
 use mathlib.Core.List.{[], _++_}
 use native.Mathlib.Omega.{arith}
 use borrow.Author.Needs.{needs}

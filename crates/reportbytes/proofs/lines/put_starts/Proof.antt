@@ -1,4 +1,4 @@
--- `reportbytes::lines::put_starts` meets its contract. Assumes nothing.
+-- `reportbytes::lines::put_starts` meets its contract. The loop keeps that the lines of the starts from i on are left to write. Assumes nothing.
 use Prim.Native.Nat.{_-_, _≤_, _<_}
 use mathlib.Core.Path.{_≡_, _∙_}
 use native.Mathlib.Omega.{arith}
