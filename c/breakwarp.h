@@ -14,8 +14,9 @@
  * RETURNS. A call answers 0 or more, or minus the number of the refusal. A refused call writes nothing into any
  * lent slice. Past the result of an accepted call a lent slice keeps its contents.
  *
- * STACK. See docs/SPEED.md for the measured stack of each call; the report call needs the most, since it holds
- * the text and the list of hits of a sheet.
+ * STACK. Bytes of stack that a call uses, measured on x86-64 by c/stack.c, which runs each call on a thread whose stack was filled with a
+ * pattern: report 67,336 (it holds the text and the list of hits of a sheet), kmp 4,152, to_products 2,000, read_sheet 1,152, bm 1,128, hybrid
+ * 512, every other call less.
  */
 #ifndef BREAKWARP_H
 #define BREAKWARP_H

@@ -1,15 +1,13 @@
--- What answers a search's promise, for any engine; and that only one outcome does. Assumes nothing.
+-- What answers a search's promise, for any engine. Assumes nothing.
 use mathlib.Core.Path.{_≡_, refl, ap}
 use mathlib.Core.List.{List}
 use Prim.Native.Nat.{ℕ}
-use Rattle.promise.proofs.Uniqueness.{one-outcome}
 use Rattle.hits.specs.Hits.{hits, over}
 use Rattle.hits.specs.Turns.{Run}
 use Rattle.hits.specs.Counts.{workOf}
 use Rattle.hits.specs.declared.work.Work.{Work}
 use Rattle.inputs.specs.declared.refusal.Refusal.{Refusal}
 use Rattle.inputs.specs.declared.refusal.Check.the-variants.{Passed, Refused}
-use Rattle.inputs.specs.declared.refusal.Answer.{Answer}
 use Rattle.inputs.specs.declared.refusal.Answer.the-variants.{Found, Refused as AnswerRefused}
 use Rattle.inputs.specs.Refusals.{verdict}
 use Rattle.inputs.specs.Answers.{Searched}
@@ -23,7 +21,3 @@ module _ (rule : List ℕ → List ℕ → Run) (K M N k : ℕ) (P T d : List �
   pub search-found : (w : Work) (list : List ℕ) → verdict K M N k P T ≡ Passed → w ≡ workOf (hits P T) (rule P T) → list ≡ over (hits P T) d
       → Searched rule K M N k P T d (Found w) list
   search-found w list e ew el = rw e (record { answers = ap Found ew; leaves = el })
-
-  -- the promise has one outcome
-  pub one-search : (r s : Answer) (left right : List ℕ) → Searched rule K M N k P T d r left → Searched rule K M N k P T d s right → (r ≡ s) × (left ≡ right)
-  one-search r s left right p q = one-outcome p q

@@ -8,4 +8,3 @@ pub mod WriteLaws
 pub mod RoundTrip
 pub mod MeetingLaws
 pub mod Examples
-pub mod Unique

@@ -2,5 +2,4 @@ pub mod ValueLaws
 pub mod RoomLaws
 pub mod BoundLaws
 pub mod PromiseLaws
-pub mod Unique
 pub mod Examples

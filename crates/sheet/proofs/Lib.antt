@@ -3,6 +3,5 @@ pub mod CaseLaws
 pub mod PromiseLaws
 pub mod AcceptLaws
 pub mod RoundTrip
-pub mod Unique
 pub mod PlaceLaws
 pub mod Examples

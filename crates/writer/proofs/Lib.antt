@@ -1,5 +1,4 @@
 pub mod LineLaws
 pub mod CheckLaws
 pub mod RoundTrip
-pub mod Unique
 pub mod Examples
