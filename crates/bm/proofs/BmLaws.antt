@@ -3,7 +3,7 @@ use mathlib.Core.Path.{_≡_, refl, sym, ap, _∙_}
 use mathlib.Core.Bool.{Bool, false, _&&_}
 use mathlib.Core.List.{List, []}
 use Prim.Native.Nat.{ℕ, suc, _+_, _-_, _*_, _≤_, _<_, zero-le, max}
-use native.Mathlib.Nat.{mul-comm, mul-le-mul-left, mul-le-mul-right}
+use native.Mathlib.Nat.{mul-comm, mul-le-mul-left}
 use native.Mathlib.Omega.{arith}
 use borrow.Author.Tests.{leb-true, leb-false, le-leb, lt-leb, eqb-true, eqb-false, eq-eqb, ne-eqb, ltb-true, ltb-false}
 use lib.Dec.{eqb, ltb}
@@ -13,7 +13,7 @@ use Rattle.letters.proofs.Truth.{bool-cases}
 use Rattle.hits.specs.Hits.{within, hitAt, hits}
 use Rattle.hits.specs.Turns.{Turn, Run, idle}
 use Rattle.hits.proofs.HitLaws.{hit-is, no-hit, one-from}
-use Rattle.hits.proofs.RunLaws.{Sound, run-stop, finds-all, bounded, per-start}
+use Rattle.hits.proofs.RunLaws.{Sound, run-stop, finds-all, bounded, per-start, per-start-small, per-shift-small}
 use Rattle.shifts.specs.Least.{least}
 use Rattle.shifts.specs.Shift.{fit, trials}
 use Rattle.shifts.specs.Singles.{plain}
@@ -199,12 +199,7 @@ module _ (P T : List ℕ) where
   -- within limits on m and n the counts have a limit
   module _ (M N : ℕ) (h : length P ≤ M) (k : length T ≤ N) where
     pub scan-small : bmRun P T .scan ≤ M * (N + 1)
-    scan-small =
-        let a : length T + 1 - length P ≤ N + 1 = omega arith in
-        omega (arith, bm-scan, mul-le-mul-right (length T + 1 - length P) h, mul-le-mul-left M a)
+    scan-small = per-start-small M N (length P) (length T) _ bm-scan h k
 
     pub shift-small : 0 < length P → bmRun P T .shift ≤ N * M
-    shift-small pos =
-        let a : length T - length P ≤ N = omega arith in
-        let b : length P - 1 ≤ M = omega arith in
-        omega (arith, bm-shift pos, mul-le-mul-right (length P - 1) a, mul-le-mul-left N b)
+    shift-small pos = per-shift-small M N (length P) (length T) _ (bm-shift pos) h k

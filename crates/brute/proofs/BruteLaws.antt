@@ -2,7 +2,6 @@
 use mathlib.Core.Path.{_≡_, refl, sym, ap, _∙_}
 use mathlib.Core.List.{List, []}
 use Prim.Native.Nat.{ℕ, suc, _+_, _-_, _*_, _≤_}
-use native.Mathlib.Nat.{mul-le-mul-left, mul-le-mul-right}
 use native.Mathlib.Omega.{arith}
 use borrow.Author.Tests.{leb-true, leb-false}
 use lib.ListN.{length}
@@ -11,7 +10,7 @@ use Rattle.hits.specs.Hits.{within, hits}
 use Rattle.hits.specs.Turns.{Turn, Run}
 use Rattle.hits.proofs.HitLaws.{one-from}
 use Rattle.hits.proofs.ScanLaws.{scan-hit, tests-le}
-use Rattle.hits.proofs.RunLaws.{Sound, finds-all, per-start}
+use Rattle.hits.proofs.RunLaws.{Sound, finds-all, per-start, per-start-small}
 use Rattle.brute.specs.Brute.{bruteTurn, bruteRun}
 
 module _ (P T : List ℕ) where
@@ -55,6 +54,4 @@ module _ (P T : List ℕ) where
 
   -- within the limits it fits a word
   pub brute-small : length P ≤ 64 → length T ≤ 65536 → bruteRun P T .scan ≤ 64 * 65537
-  brute-small h k =
-      let a : length T + 1 - length P ≤ 65537 = omega arith in
-      omega (arith, brute-scan, mul-le-mul-right (length T + 1 - length P) h, mul-le-mul-left 64 a)
+  brute-small h k = per-start-small 64 65536 (length P) (length T) _ brute-scan h k

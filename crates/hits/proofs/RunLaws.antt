@@ -3,7 +3,7 @@ use mathlib.Core.Path.{_≡_, refl, sym, ap, _∙_}
 use mathlib.Core.Bool.{Bool, true, false}
 use mathlib.Core.List.{List, _++_}
 use Prim.Native.Nat.{ℕ, zero, suc, _+_, _-_, _*_, _≤_, _<_}
-use native.Mathlib.Nat.{mul-le-mul-left}
+use native.Mathlib.Nat.{mul-le-mul-left, mul-le-mul-right}
 use native.Mathlib.Omega.{arith}
 use lib.ListN.{length}
 use Rattle.letters.proofs.Truth.{bool-cases, both-ways}
@@ -112,3 +112,16 @@ module _ {S : Type 0} {P T : List ℕ} {more : S → Bool} {turn : S → Turn S}
         in
         let k : length T + 1 - (at s₀ + length P) ≤ length T + 1 - length P = omega arith in
         omega (arith, h, mul-le-mul-left c k)
+
+-- such a count is small within the limits
+pub per-start-small : (M N m n x : ℕ) → x ≤ m * (n + 1 - m) → m ≤ M → n ≤ N → x ≤ M * (N + 1)
+per-start-small M N m n x b h k =
+    let a : n + 1 - m ≤ N + 1 = omega arith in
+    omega (arith, mul-le-mul-right (n + 1 - m) h, mul-le-mul-left M a)
+
+-- so is a count of at most m - 1 for each start but one
+pub per-shift-small : (M N m n x : ℕ) → x ≤ (n - m) * (m - 1) → m ≤ M → n ≤ N → x ≤ N * M
+per-shift-small M N m n x c h k =
+    let a : n - m ≤ N = omega arith in
+    let b : m - 1 ≤ M = omega arith in
+    omega (arith, mul-le-mul-right (m - 1) a, mul-le-mul-left N b)

@@ -4,7 +4,7 @@ use mathlib.Core.Bool.{Bool, true, false, _&&_}
 use mathlib.Core.Logic.{⊎-elim}
 use mathlib.Core.List.{List, []}
 use Prim.Native.Nat.{ℕ, zero, suc, _+_, _-_, _*_, _≤_, _<_, zero-le}
-use native.Mathlib.Nat.{eq-zero-or-pos, mul-comm, mul-le-mul-left, mul-le-mul-right}
+use native.Mathlib.Nat.{eq-zero-or-pos, mul-comm}
 use native.Mathlib.Omega.{arith}
 use borrow.Author.Tests.{leb-true, leb-false, ne-eqb, lt-leb}
 use lib.Dec.{eqb, ltb}
@@ -17,7 +17,7 @@ use Rattle.hits.specs.Scans.{reach}
 use Rattle.hits.specs.Counts.{tally}
 use Rattle.hits.proofs.HitLaws.{met-none, one-from}
 use Rattle.hits.proofs.ScanLaws.{reach-ge, reach-le, reach-hit, tests-le, tests-reach}
-use Rattle.hits.proofs.RunLaws.{Sound, run-stop, finds-all, bounded}
+use Rattle.hits.proofs.RunLaws.{Sound, run-stop, finds-all, bounded, per-shift-small}
 use Rattle.shifts.specs.Singles.{plain}
 use Rattle.shifts.specs.Least.{least}
 use Rattle.shifts.specs.Shift.{fit, trials}
@@ -218,7 +218,4 @@ module _ (P T : List ℕ) where
     scan-small = omega (arith, kmp-scan)
 
     pub shift-small : kmpRun P T .shift ≤ N * M
-    shift-small =
-        let a : length T - length P ≤ N = omega arith in
-        let b : length P - 1 ≤ M = omega arith in
-        omega (arith, kmp-shift, mul-le-mul-right (length P - 1) a, mul-le-mul-left N b)
+    shift-small = per-shift-small M N (length P) (length T) _ kmp-shift short small

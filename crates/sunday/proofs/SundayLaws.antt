@@ -3,7 +3,6 @@ use mathlib.Core.Path.{_≡_, refl, sym, ap, _∙_}
 use mathlib.Core.Bool.{false}
 use mathlib.Core.List.{List, []}
 use Prim.Native.Nat.{ℕ, suc, _+_, _-_, _*_, _≤_, _<_}
-use native.Mathlib.Nat.{mul-le-mul-left, mul-le-mul-right}
 use native.Mathlib.Omega.{arith}
 use borrow.Author.Tests.{leb-true, leb-false, eq-eqb, ne-eqb, eqb-true, eqb-false}
 use lib.Dec.{eqb}
@@ -14,7 +13,7 @@ use Rattle.hits.specs.Hits.{within, hitAt, hits}
 use Rattle.hits.specs.Turns.{Turn, Run}
 use Rattle.hits.proofs.HitLaws.{no-hit, one-from}
 use Rattle.hits.proofs.ScanLaws.{scan-hit, tests-le}
-use Rattle.hits.proofs.RunLaws.{Sound, finds-all, per-start}
+use Rattle.hits.proofs.RunLaws.{Sound, finds-all, per-start, per-start-small}
 use Rattle.pattern.specs.Last.{afterR}
 use Rattle.pattern.proofs.LastLaws.{last-above, r-le}
 use Rattle.sunday.specs.Sunday.{nextStart, sundayTurn, sundayRun}
@@ -101,6 +100,4 @@ module _ (P T : List ℕ) where
 
   -- within the limits it fits a word
   pub sunday-small : length P ≤ 64 → length T ≤ 65536 → sundayRun P T .scan ≤ 64 * 65537
-  sunday-small h k =
-      let a : length T + 1 - length P ≤ 65537 = omega arith in
-      omega (arith, sunday-scan, mul-le-mul-right (length T + 1 - length P) h, mul-le-mul-left 64 a)
+  sunday-small h k = per-start-small 64 65536 (length P) (length T) _ sunday-scan h k
