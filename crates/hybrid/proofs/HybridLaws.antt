@@ -6,20 +6,20 @@ use mathlib.Core.Logic.{⊎-elim}
 use Prim.Native.Nat.{ℕ, suc, _+_, _-_, _*_, _≤_, _<_}
 use native.Mathlib.Nat.{eq-or-lt-of-le}
 use native.Mathlib.Omega.{arith}
-use borrow.Author.Tests.{leb-true, leb-false, lt-leb, eqb-true, eqb-false, eq-eqb, ne-eqb}
-use lib.Dec.{eqb, leb}
+use borrow.Author.Tests.{leb-true, leb-false, lt-leb}
+use lib.Dec.{leb}
 use lib.ListN.{length, getD}
 use Rattle.letters.specs.Letters.{meets}
 use Rattle.letters.proofs.Truth.{bool-cases}
-use Rattle.hits.specs.Hits.{within, hitAt, hits, hitsFrom}
+use Rattle.hits.specs.Hits.{within, hits, hitsFrom}
 use Rattle.hits.specs.Turns.{Turn, Run, idle}
-use Rattle.hits.proofs.HitLaws.{no-hit, no-hit-past, none-from}
+use Rattle.hits.proofs.HitLaws.{no-hit, none-from}
 use Rattle.hits.proofs.RunLaws.{Sound, Fair, run-stop, finds-all, bounded, per-start}
-use Rattle.pattern.specs.Last.{afterR}
-use Rattle.pattern.proofs.LastLaws.{last-above, r-le}
 use Rattle.word.proofs.WordLaws.{zero-means}
 use Rattle.hybrid.specs.Stretches.{stretch}
-use Rattle.hybrid.specs.Hybrid.{stretched, shifted, sundayNext, hybridTurn, hybridRun}
+use Rattle.sunday.specs.Sunday.{nextStart}
+use Rattle.sunday.proofs.SundayLaws.{next-gt, next-le, next-passes}
+use Rattle.hybrid.specs.Hybrid.{stretched, shifted, hybridTurn, hybridRun}
 use Rattle.hybrid.proofs.StretchLaws.{waiting, Fine, fine, some-step}
 
 module _ (P T : List ℕ) where
@@ -31,54 +31,18 @@ module _ (P T : List ℕ) where
   unfolding hybridTurn
   turn-yes a y = rw y
 
-  pub turn-no : (a : ℕ) → last-meets a ≡ false → hybridTurn P T a ≡ shifted (sundayNext P T a)
+  pub turn-no : (a : ℕ) → last-meets a ≡ false → hybridTurn P T a ≡ shifted (nextStart P T a)
   unfolding hybridTurn
   turn-no a n = rw n
 
-  -- a start that Sunday's shift passes: its letter over T[a+m] stands above R, or it lies past n - m
+  -- a start that Sunday's shift passes is no hit
   module _ (a : ℕ) (l : a + length P ≤ length T) where
-    pub next-end : a + length P ≡ length T → sundayNext P T a ≡ length T + 1
-    unfolding sundayNext
-    next-end e = rw (eq-eqb _ _ e)
-
-    pub next-on : (a + length P ≡ length T → ⊥) → sundayNext P T a ≡ a + (length P + 1 - afterR P (getD T (a + length P) 0))
-    unfolding sundayNext
-    next-on n = rw (ne-eqb _ _ n)
-
-    pub next-ahead : a < sundayNext P T a
-    next-ahead =
-        bool-cases (eqb (a + length P) (length T))
-        (λ y. omega (arith, next-end (eqb-true _ _ y)))
-        (λ n. omega (arith, next-on (eqb-false _ _ n), r-le P (getD T (a + length P) 0)))
-
-    pub next-near : sundayNext P T a ≤ length T + 1
-    next-near =
-        bool-cases (eqb (a + length P) (length T))
-        (λ y. omega (arith, next-end (eqb-true _ _ y)))
-        (λ n. omega (arith, next-on (eqb-false _ _ n)))
-
-    under : (i : ℕ) → a < i → i < a + (length P + 1 - afterR P (getD T (a + length P) 0)) → hitAt P T i ≡ false
-    unfolding afterR
-    under i k h =
-        bool-cases (leb i (a + length P))
-        (λ y. let u : i ≤ a + length P = leb-true _ _ y in
-        let z : i + (a + length P - i) ≡ a + length P = omega arith in
-        no-hit P T i (a + length P - i) (omega arith)
-        (rw z (last-above P (getD T (a + length P) 0) (length P) (a + length P - i) (omega arith) (omega arith))))
-        (λ z. absurd (let u : a + length P < i = leb-false _ _ z in omega arith))
-
-    passed : (i : ℕ) → a < i → i < sundayNext P T a → hitAt P T i ≡ false
-    passed i k h =
-        bool-cases (eqb (a + length P) (length T))
-        (λ y. let e : a + length P ≡ length T = eqb-true _ _ y in no-hit-past P T i (omega arith))
-        (λ n. under i k (omega (arith, next-on (eqb-false _ _ n))))
-
-    shift-right : 0 < length P → last-meets a ≡ false → hitsFrom P T (sundayNext P T a - a) a ≡ []
+    shift-right : 0 < length P → last-meets a ≡ false → hitsFrom P T (nextStart P T a - a) a ≡ []
     shift-right p n =
         let z : a + length P - 1 ≡ a + (length P - 1) = omega arith in
         let f : meets (getD P (length P - 1) 0) (getD T (a + (length P - 1)) 0) ≡ false = rw z at n in
-        none-from P T (sundayNext P T a - a) a
-        (λ i u v. ⊎-elim (λ (q : a ≡ i). rw (← q) (no-hit P T a (length P - 1) (omega arith) f)) (λ (q : a < i). passed i q (omega (arith, next-ahead))) (eq-or-lt-of-le u))
+        none-from P T (nextStart P T a - a) a
+        (λ i u v. ⊎-elim (λ (q : a ≡ i). rw (← q) (no-hit P T a (length P - 1) (omega arith) f)) (λ (q : a < i). next-passes P T a l i q (omega (arith, next-gt P T a l))) (eq-or-lt-of-le u))
 
   module _ (p : 0 < length P) where
     -- the word steps from a start that fits
@@ -104,12 +68,12 @@ module _ (P T : List ℕ) where
           moved = omega arith;
           right = rw z at (w .finds);
         }))
-        (λ n. let k = next-ahead a l in
+        (λ n. let k = next-gt P T a l in
         rw (turn-no a n)
         (record {
           falls = omega arith;
           still = tt;
-          gap = sundayNext P T a - a;
+          gap = nextStart P T a - a;
           moved = omega arith;
           right = sym (shift-right a l p n);
         }))
@@ -144,17 +108,17 @@ module _ (P T : List ℕ) where
     turn-pays a l =
         bool-cases (last-meets a)
         (λ y. let w = steps-fine a l in rw (turn-yes a y) (omega (arith, w .ahead, w .within)))
-        (λ n. rw (turn-no a n) (omega (arith, next-ahead a l)))
+        (λ n. rw (turn-no a n) (omega (arith, next-gt P T a l)))
 
     -- the next start is ahead, and at most one past the text
     pub goes-on : (a : ℕ) → a + length P ≤ length T → a < hybridTurn P T a .next
-    goes-on a l = bool-cases (last-meets a) (λ y. rw (turn-yes a y) (steps-ahead a l)) (λ n. rw (turn-no a n) (next-ahead a l))
+    goes-on a l = bool-cases (last-meets a) (λ y. rw (turn-yes a y) (steps-ahead a l)) (λ n. rw (turn-no a n) (next-gt P T a l))
 
     pub stays-near : (a : ℕ) → a + length P ≤ length T → hybridTurn P T a .next ≤ length T + 1
     stays-near a l =
         bool-cases (last-meets a)
         (λ y. let w = steps-fine a l .within in rw (turn-yes a y) (omega arith))
-        (λ n. rw (turn-no a n) (next-near a l))
+        (λ n. rw (turn-no a n) (next-le P T a l))
 
     -- scan tests: at most n - m + 1
     pub hybrid-scan : hybridRun P T .scan ≤ length T + 1 - length P

@@ -2,14 +2,13 @@
 use Prim.Native.Nat.{ℕ, suc, _+_, _-_}
 use mathlib.Core.Bool.{cond}
 use mathlib.Core.List.{List, []}
-use lib.Dec.{eqb}
 use lib.ListN.{length, getD}
 use Rattle.promise.specs.Promised.{Promised}
 use Rattle.letters.specs.Letters.{meets}
 use Rattle.hits.specs.Hits.{within}
 use Rattle.hits.specs.Turns.{Turn, Run, run}
 use Rattle.hits.specs.Counts.{notedAll}
-use Rattle.pattern.specs.Last.{afterR}
+use Rattle.sunday.specs.Sunday.{nextStart}
 use Rattle.hybrid.specs.Stretches.{Stretch, stretch}
 use Rattle.hybrid.specs.declared.Turned.{Turned}
 
@@ -17,21 +16,16 @@ use Rattle.hybrid.specs.declared.Turned.{Turned}
 abbrev pub stretched : Stretch → Turn ℕ
 stretched r = record { found = r .found; next = r .next; scan = 1; shift = 0; steps = r .steps }
 
--- the test fails: on to the next start
+-- the test fails: end if a + m = n, else shift as Sunday, which is `nextStart`
 abbrev pub shifted : ℕ → Turn ℕ
 shifted i = record { found = []; next = i; scan = 1; shift = 0; steps = 0 }
-
--- the start after a failure at a: past all starts if a + m = n, else a shift by m - R(T[a+m])
-unfoldable pub sundayNext : List ℕ → List ℕ → ℕ → ℕ
-sundayNext P T a =
-    cond (eqb (a + length P) (length T)) (length T + 1) (a + (length P + 1 - afterR P (getD T (a + length P) 0)))
 
 -- a turn at start a
 unfoldable pub hybridTurn : List ℕ → List ℕ → ℕ → Turn ℕ
 hybridTurn P T a =
     cond (meets (getD P (length P - 1) 0) (getD T (a + length P - 1) 0))
     (stretched (stretch P T (length T - a) a 0))
-    (shifted (sundayNext P T a))
+    (shifted (nextStart P T a))
 
 -- from start 0, until the start exceeds n - m
 unfoldable pub hybridRun : List ℕ → List ℕ → Run

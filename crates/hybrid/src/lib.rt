@@ -9,8 +9,8 @@ use inputs::refusal::Check;
 use letters::letter::Letter;
 use letters::letter::meet;
 use pattern::Pattern;
-use pattern::after_r;
 use pattern::masks::Masks;
+use sunday::next_start;
 use word::advance;
 use word::is_set;
 use word::note_end;
@@ -22,7 +22,7 @@ ghost use Rattle.hits.specs.Counts.{workOf};
 ghost use Rattle.pattern.specs.Tables.{LastTable, MaskTable};
 ghost use Rattle.inputs.specs.Answers.{Searched, scanOf, stepsOf};
 ghost use Rattle.hybrid.specs.Stretches.{stretch};
-ghost use Rattle.hybrid.specs.Hybrid.{stretched, sundayNext, hybridTurn, hybridRun, Turns};
+ghost use Rattle.hybrid.specs.Hybrid.{stretched, hybridTurn, hybridRun, Turns};
 
 struct Turned {
     next: usize,
@@ -72,19 +72,6 @@ fn ran(a: usize, e: usize, total: usize) -> Turned
     }
 }
 
-// The start after a failure at a, by Sunday's shift; no letter is read where the text ends.
-fn sunday_next(p: &[u32], lasts: &[u32; 32], t: &[u32], a: usize) -> usize
-    requires { ⌜ (length (now p) ≤ 64) × (length (now t) ≤ 65536) × (a + length (now p) ≤ length (now t)) × LastTable 32 (now p) (now lasts) ⌝ }
-    ensures { λ r. ⌜ r ≡ sundayNext (now (p .entry)) (now (t .entry)) a ⌝ }
-{
-    let m = p.len();
-    let n = t.len();
-    if a + m == n {
-        return n + 1;
-    }
-    a + (m + 1 - after_r(lasts, t[a + m]))
-}
-
 // A turn at start a. Hits are noted after `total` others.
 fn step(
     p: &[u32],
@@ -103,7 +90,7 @@ fn step(
         return steps_from(p, rows, t, a, list, total);
     }
     Turned {
-        next: sunday_next(p, lasts, t, a),
+        next: next_start(p, t, lasts, a),
         total,
         scan: 1,
         steps: 0,

@@ -26,7 +26,7 @@ struct Turned {
 }
 
 // The start after i. The letter after the window is read only if there is one.
-fn next_start(p: &[u32], t: &[u32], lasts: &[u32; 32], i: usize) -> usize
+pub fn next_start(p: &[u32], t: &[u32], lasts: &[u32; 32], i: usize) -> usize
     requires { ⌜ (i + length (now p) ≤ length (now t)) × LastTable 32 (now p) (now lasts) ⌝ }
     ensures { λ r. ⌜ r ≡ nextStart (now (p .entry)) (now (t .entry)) i ⌝ }
 {

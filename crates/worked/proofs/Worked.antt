@@ -22,7 +22,7 @@ use Rattle.sunday.specs.Sunday.{nextStart, sundayTurn, sundayRun}
 use Rattle.word.specs.Word.{moved, positions, stepped, isSet}
 use Rattle.shiftand.specs.ShiftAnd.{shiftandTurn, shiftandRun}
 use Rattle.hybrid.specs.Stretches.{stretch}
-use Rattle.hybrid.specs.Hybrid.{sundayNext, hybridTurn, hybridRun}
+use Rattle.hybrid.specs.Hybrid.{hybridTurn, hybridRun}
 use Rattle.products.specs.Primes.{primes, product, prime, productOf, firstProduct, divides, isProduct, dividing, letterOf}
 use Rattle.products.specs.Conversions.{firstOther, alphabetThen, verdict as conversion, toVerdict, fromVerdict}
 use Rattle.products.specs.Gcd.{commonUpTo, gcd}
@@ -31,5 +31,5 @@ use Rattle.worked.specs.Asked.{Given, given}
 use Rattle.worked.specs.Table.{Example, examples}
 
 pub worked : map (λ (e : Example). given (e .asked)) examples ≡ map (λ (e : Example). e .due) examples
-unfolding ones onesIn digit member shared meets single membersFrom members met hitAt hitsFrom hits over run reach tests plain span least fit trial trials back backTests lastIn afterR bad firstBad refuse verdict bruteTurn bruteRun nowMet shiftBy shiftTests kmpTurn kmpRun firstShift firstTests failShift secondShift bmTurn bmRun nextStart sundayTurn sundayRun moved positions stepped isSet shiftandTurn shiftandRun stretch sundayNext hybridTurn hybridRun primes product prime productOf firstProduct divides isProduct dividing letterOf firstOther alphabetThen conversion toVerdict fromVerdict commonUpTo gcd pairVerdict productsMeet
+unfolding ones onesIn digit member shared meets single membersFrom members met hitAt hitsFrom hits over run reach tests plain span least fit trial trials back backTests lastIn afterR bad firstBad refuse verdict bruteTurn bruteRun nowMet shiftBy shiftTests kmpTurn kmpRun firstShift firstTests failShift secondShift bmTurn bmRun nextStart sundayTurn sundayRun moved positions stepped isSet shiftandTurn shiftandRun stretch hybridTurn hybridRun primes product prime productOf firstProduct divides isProduct dividing letterOf firstOther alphabetThen conversion toVerdict fromVerdict commonUpTo gcd pairVerdict productsMeet
 worked = refl

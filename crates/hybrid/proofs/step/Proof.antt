@@ -46,8 +46,8 @@ returns c =
     let a = k .before .before .before .before .before .before .args in
     rw (turn-yes (a .p .now) (a .t .now) (a .a) (sym (k .meet .ensures) ∙ i .if1 .taken)) (f .steps-from .ensures)
 
-sunday-next-requires : tie.Need-sunday-next-requires
-sunday-next-requires c κs = search needs
+next-start-requires : tie.Need-next-start-requires
+next-start-requires c κs = search needs
 
 returns-2 : tie.Need-returns-2
 unfolding notedAll
@@ -55,7 +55,7 @@ returns-2 c =
     let i = c .before in
     let k = i .before in
     let a = k .before .before .before .before .before .before .args in
-    rw (turn-no (a .p .now) (a .t .now) (a .a) (sym (k .meet .ensures) ∙ i .if1 .left), c .sunday-next .ensures)
+    rw (turn-no (a .p .now) (a .t .now) (a .a) (sym (k .meet .ensures) ∙ i .if1 .left), c .next-start .ensures)
     (record { answers = rw (add-zero (a .total)); leaves = refl })
 
 pub step-spec : {M : Type 1} → statement M
@@ -73,5 +73,5 @@ step-spec =
     steps-from-requires
     same-length
     returns
-    sunday-next-requires
+    next-start-requires
     returns-2)
