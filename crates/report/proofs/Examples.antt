@@ -21,7 +21,7 @@ use Rattle.kmp.specs.Kmp.{nowMet, shiftBy, shiftTests, kmpTurn, kmpRun}
 use Rattle.bm.specs.Bm.{firstShift, firstTests, failShift, secondShift, bmTurn, bmRun}
 use Rattle.sunday.specs.Sunday.{nextStart, sundayTurn, sundayRun}
 use Rattle.shiftand.specs.ShiftAnd.{shiftandTurn, shiftandRun}
-use Rattle.hybrid.specs.Hybrid.{sundayNext, hybridTurn, hybridRun}
+use Rattle.hybrid.specs.Hybrid.{hybridTurn, hybridRun}
 use Rattle.hybrid.specs.Stretches.{stretch}
 use Rattle.decimal.specs.Decimal.{isDigit, frontDigits, value, decimalTo, decimal}
 use Rattle.decimal.specs.CountLine.{rightCount, countAt}
@@ -109,7 +109,7 @@ unfolding digit shared meets run moved positions stepped isSet shiftandTurn shif
 shiftand-is = refl
 
 hybrid-is : hybridRun P T ≡ counted 1 0 12
-unfolding digit shared meets membersFrom members greatestOf lastIn afterR run moved positions stepped isSet stretch sundayNext hybridTurn hybridRun
+unfolding digit shared meets membersFrom members greatestOf lastIn afterR run moved positions stepped isSet stretch nextStart hybridTurn hybridRun
 hybrid-is = refl
 
 values-are : valuesOf P T ≡ values

@@ -1,0 +1,281 @@
+/* Times the library's six searches beside the same engines in plain C.
+ *   bench [PASSES]                     compare and time every workload
+ *   bench means [PASSES]               the same, but print the mean and the worst of each engine alone
+ *   bench grow [PASSES]                how cost grows with n and with m
+ *   bench once SIDE ENGINE WORKLOAD    one search and nothing else, for counting instructions; SIDE is lib or c
+ * Every answer is compared first; a difference ends the program with 1.
+ */
+#define _GNU_SOURCE
+#include "../c/breakwarp.h"
+#include "engines.h"
+#include <sched.h>
+#include <stdio.h>
+#include <stdlib.h>
+#include <string.h>
+#include <time.h>
+#include <unistd.h>
+
+#define N 65536
+#define MARK 0xdeadbeefu
+typedef int64_t search_fn(uint32_t, const uint32_t *, size_t, const uint32_t *, size_t, uint32_t *, size_t, uint64_t *, size_t);
+static const char *const NAME[6] = {"brute", "kmp", "bm", "sunday", "shiftand", "hybrid"};
+static search_fn *const LIB[6] = {breakwarp_brute, breakwarp_kmp, breakwarp_bm, breakwarp_sunday, breakwarp_shiftand, breakwarp_hybrid};
+static search_fn *const C[6] = {c_brute, c_kmp, c_bm, c_sunday, c_shiftand, c_hybrid};
+
+/* ---- workloads ---- */
+struct work { const char *name; uint32_t k, p[64], *t; size_t m; };
+#define WORKS 9
+static struct work works[WORKS];
+static uint64_t seed;
+static uint64_t next(void) {
+  uint64_t z = seed += 0x9E3779B97F4A7C15u;
+  z = (z ^ (z >> 30)) * 0xBF58476D1CE4E5B9u;
+  z = (z ^ (z >> 27)) * 0x94D049BB133111EBu;
+  return z ^ (z >> 31);
+}
+static uint32_t below(uint32_t m) { return (uint32_t)(((next() >> 32) * m) >> 32); }
+static int unsure(uint32_t c) { return (c & (c - 1)) != 0; }
+
+static const char *const NAMES[] = {"johann", "anna", "maria", "thomas", "margaret", "elizabeth", "william", "mary", "john", "robert", "agnes",
+  "henry", "richard", "alice", "joan", "edward", "catherine", "martha", "samuel", "sarah", "hannah", "nathaniel", "ellen", "walter", "isabel",
+  "george", "dorothy", "francis", "susanna", "ralph", "jane", "peter", "bridget", "matthew", "rebecca", "daniel", "smith", "taylor", "wright",
+  "walker", "turner", "cooper", "carter", "fletcher", "mason", "webb", "hill", "green", "wood", "clarke", "harrison", "jackson", "thompson",
+  "baptised", "buried", "married", "son", "daughter", "of", "wife", "widow", "and", "the", "day", "parish", "labourer", "husbandman", "yeoman",
+  "spinster", "weaver", "infant", "base", "born", "january", "february", "march", "april", "may", "june", "july", "august"};
+static const char *const CONFUSED[] = {"ao", "nu", "ec", "ij", "mn", "uv", "vw", "rn", "tl", "ft", "hk", "gy", "qg", "sf", "bh", "pq", "dl", "oe",
+  "zx", "rv", "it", "cr", "au", "lb", "kr", "wm", "ea", "yj", "xk", "sz", "aeo", "nmu", "iju", "rnv", "tlf", "ceo", "hkb", "sfz", "gyq", "uvw"};
+#define COUNT(a) (sizeof(a) / sizeof *(a))
+static uint32_t set(const char *s) {
+  uint32_t v = 0;
+  for (; *s; s++) v |= 1u << (*s - 'a');
+  return v;
+}
+static uint32_t *room(void) { /* 16 bytes past a line of the cache, where malloc would put it */
+  uint32_t *b = aligned_alloc(4096, N * 4 + 4096);
+  if (!b) abort();
+  return b + 4;
+}
+static uint32_t *names(uint64_t s, size_t doubts) { /* names run together, so many unsure letters on each page of 2,000 */
+  uint32_t *t = room();
+  seed = s;
+  for (size_t n = 0; n < N;)
+    for (const char *q = NAMES[below(COUNT(NAMES))]; *q && n < N; q++) t[n++] = 1u << (*q - 'a');
+  for (size_t page = 0; page < N; page += 2000) {
+    size_t len = N - page < 2000 ? N - page : 2000, u = (doubts * len + 1000) / 2000;
+    while (u) {
+      size_t i = page + below((uint32_t)len);
+      if (unsure(t[i])) continue;
+      uint32_t v;
+      do v = set(CONFUSED[below(COUNT(CONFUSED))]); while (!(v & t[i]));
+      t[i] = v;
+      u--;
+    }
+  }
+  return t;
+}
+static uint32_t *letters(uint64_t s, uint32_t k) {
+  uint32_t *t = room();
+  seed = s;
+  for (size_t i = 0; i < N; i++) t[i] = 1u << below(k);
+  return t;
+}
+static uint32_t *same(uint32_t c) {
+  uint32_t *t = room();
+  for (size_t i = 0; i < N; i++) t[i] = c;
+  return t;
+}
+static void widen(uint32_t *s, size_t n, size_t u, uint32_t k) { /* make u letters unsure */
+  while (u) {
+    size_t i = below((uint32_t)n);
+    uint32_t o = 1u << below(k);
+    if (unsure(s[i]) || o == s[i]) continue;
+    s[i] |= o;
+    u--;
+  }
+}
+static void cut(struct work *w, size_t m) { /* the pattern is a stretch of the text with every doubt resolved */
+  size_t i = below((uint32_t)(N - m));
+  for (size_t j = 0; j < m; j++) w->p[j] = w->t[i + j] & (0u - w->t[i + j]);
+  w->m = m;
+}
+static void spell(struct work *w, const char *const *s) {
+  for (w->m = 0; s[w->m]; w->m++) w->p[w->m] = set(s[w->m]);
+}
+static void make(void) {
+  uint32_t *t = names(101, 12);
+  works[0] = (struct work){.name = "names, p = thomas", .k = 26, .t = t};
+  spell(&works[0], (const char *const[]){"t", "h", "o", "m", "a", "s", 0});
+  works[1] = (struct work){.name = "names, p = th[ao]m[ae]s", .k = 26, .t = t};
+  spell(&works[1], (const char *const[]){"t", "h", "ao", "m", "ae", "s", 0});
+  works[2] = (struct work){.name = "many doubts, p = margaret", .k = 26, .t = names(103, 240)};
+  spell(&works[2], (const char *const[]){"m", "a", "r", "g", "a", "r", "e", "t", 0});
+  works[3] = (struct work){.name = "four letters, m = 20", .k = 4, .t = letters(104, 4)};
+  cut(&works[3], 20);
+  widen(works[3].p, 20, 2, 4);
+  works[4] = (struct work){.name = "two letters, m = 40", .k = 2, .t = letters(105, 2)};
+  widen(works[4].t, N, N * 6 / 100, 2);
+  cut(&works[4], 40);
+  widen(works[4].p, 40, 4, 2);
+  works[5] = (struct work){.name = "text all a, p = a^63 b", .k = 26, .t = same(1), .m = 64};
+  for (size_t j = 0; j < 64; j++) works[5].p[j] = j < 63 ? 1 : 2;
+  works[6] = (struct work){.name = "text all [ac], p = ab", .k = 3, .t = same(5), .p = {1, 2}, .m = 2};
+  works[7] = (struct work){.name = "names, m = 64 cut from them", .k = 26, .t = t};
+  seed = 108;
+  cut(&works[7], 64);
+  works[8] = (struct work){.name = "every start a hit, m = 64", .k = 2, .t = same(3), .m = 64};
+  for (size_t j = 0; j < 64; j++) works[8].p[j] = 1;
+}
+
+/* ---- compare ---- */
+static uint32_t hits[N + 8], other[N + 8];
+static uint64_t counts[3], counted[3];
+static volatile int64_t sink;
+
+/* The stream cut into texts of n letters: total, list, what lies past the list, and counts. Adds up the counts of one side. */
+static void compare(const struct work *w, size_t n, int e, uint64_t sum[3]) {
+  sum[0] = sum[1] = sum[2] = 0;
+  for (size_t at = 0; at + n <= N; at += n) {
+    for (size_t i = 0; i < COUNT(hits); i++) hits[i] = other[i] = MARK;
+    for (size_t i = 0; i < 3; i++) counts[i] = counted[i] = ~(uint64_t)0;
+    int64_t a = LIB[e](w->k, w->p, w->m, w->t + at, n, hits, n, counts, 3);
+    int64_t b = C[e](w->k, w->p, w->m, w->t + at, n, other, n, counted, 3);
+    if (a != b || a < 0 || memcmp(hits, other, sizeof hits) || memcmp(counts, counted, sizeof counts)) {
+      printf("%s differs on %s, n = %zu, text at %zu: total %lld, C %lld\n", NAME[e], w->name, n, at, (long long)a, (long long)b);
+      exit(1);
+    }
+    for (size_t i = 0; i < 3; i++) sum[i] += counts[i];
+  }
+}
+
+/* ---- time ---- */
+static double now(void) {
+  struct timespec s;
+  clock_gettime(CLOCK_MONOTONIC, &s);
+  return (double)s.tv_sec * 1e9 + (double)s.tv_nsec;
+}
+struct cell { search_fn *f; const struct work *w; size_t n; size_t loops; double best; };
+static void all(const struct cell *c) {
+  for (size_t at = 0; at + c->n <= N; at += c->n)
+    sink = c->f(c->w->k, c->w->p, c->w->m, c->w->t + at, c->n, hits, c->n, counts, 3);
+}
+static struct cell cell(search_fn *f, const struct work *w, size_t n) {
+  struct cell c = {f, w, n, 1, 1e99};
+  all(&c);
+  double a = now();
+  all(&c);
+  double d = now() - a;
+  if (d < 1e5) c.loops = (size_t)(1e5 / (d > 1 ? d : 1)) + 1;
+  return c;
+}
+/* The sides take turns within a pass and the passes lie far apart, so that a busy stretch of the machine hits all alike. */
+static void measure(struct cell *c, size_t cells, size_t passes) {
+  for (size_t pass = 0; pass < passes; pass++)
+    for (size_t x = 0; x < cells; x++) {
+      size_t y = pass & 1 ? cells - 1 - x : x;
+      double a = now();
+      for (size_t q = 0; q < c[y].loops; q++) all(&c[y]);
+      double d = (now() - a) / (double)c[y].loops / N;
+      if (d < c[y].best) c[y].best = d;
+    }
+}
+
+static const size_t LENGTHS[2] = {N, 4096};
+static int table(size_t passes, int whole) {
+  static struct cell c[2 * WORKS * 13];
+  static uint64_t sum[2 * WORKS * 6][3];
+  size_t x = 0;
+  for (int l = 0; l < 2; l++)
+    for (int w = 0; w < WORKS; w++) {
+      for (int e = 0; e < 6; e++) {
+        compare(&works[w], LENGTHS[l], e, sum[(l * WORKS + w) * 6 + e]);
+        c[x++] = cell(LIB[e], &works[w], LENGTHS[l]);
+        c[x++] = cell(C[e], &works[w], LENGTHS[l]);
+      }
+      c[x++] = cell(plain_brute, &works[w], LENGTHS[l]);
+    }
+  if (whole) printf("compared: total, list, rest of the list and counts agree on all %d searches\n\n", 2 * WORKS * 6);
+  measure(c, x, passes);
+  if (whole) printf("| engine | workload | n | library ns a letter | C ns a letter | ratio | work a letter |\n|---|---|---|---|---|---|---|\n");
+  double mean[6] = {0}, worst[6] = {0};
+  const char *where[6];
+  size_t at[6];
+  for (int e = 0; e < 6; e++)
+    for (int w = 0; w < WORKS; w++)
+      for (int l = 0; l < 2; l++) {
+        size_t y = (size_t)(l * WORKS + w) * 13 + 2 * (size_t)e;
+        const uint64_t *s = sum[(l * WORKS + w) * 6 + e];
+        double ratio = c[y].best / c[y + 1].best;
+        mean[e] += ratio / (2 * WORKS);
+        if (ratio > worst[e]) worst[e] = ratio, where[e] = works[w].name, at[e] = LENGTHS[l];
+        if (whole)
+          printf("| %s | %s | %zu | %.3f | %.3f | %.2f | %.3f |\n", NAME[e], works[w].name, LENGTHS[l], c[y].best, c[y + 1].best, ratio,
+                 (double)(s[0] + s[1] + s[2]) / N);
+      }
+  printf("\n| engine | mean ratio | worst ratio | where |\n|---|---|---|---|\n");
+  for (int e = 0; e < 6; e++) printf("| %s | %.2f | %.2f | %s, n = %zu |\n", NAME[e], mean[e], worst[e], where[e], at[e]);
+  if (!whole) return 0;
+  printf("\n| workload | n | library brute ns a letter | plain brute ns a letter | ratio |\n|---|---|---|---|---|\n");
+  for (int w = 0; w < WORKS; w++)
+    for (int l = 0; l < 2; l++) {
+      size_t y = (size_t)(l * WORKS + w) * 13;
+      printf("| %s | %zu | %.3f | %.3f | %.2f |\n", works[w].name, LENGTHS[l], c[y].best, c[y + 12].best, c[y].best / c[y + 12].best);
+    }
+  return 0;
+}
+
+/* n on the names at m = 8; m on the names; m where brute does the most work: text all a, pattern all a but its last letter, b. */
+#define SIZES 21
+static int grow(size_t passes) {
+  static struct work g[SIZES];
+  static struct cell c[SIZES * 12];
+  static uint64_t sum[SIZES * 6][3];
+  size_t x = 0;
+  for (int v = 0; v < SIZES; v++) {
+    struct work *w = &g[v];
+    size_t n = v < 7 ? (size_t)1024 << v : N;
+    *w = works[v < 14 ? 0 : 5];
+    if (v < 14) {
+      seed = 109;
+      cut(w, 64);
+    }
+    w->m = v < 7 ? 8 : (size_t)1 << (v % 7);
+    if (v >= 14) w->p[w->m - 1] = 2;
+    for (int e = 0; e < 6; e++) {
+      compare(w, n, e, sum[v * 6 + e]);
+      c[x++] = cell(LIB[e], w, n);
+      c[x++] = cell(C[e], w, n);
+    }
+  }
+  measure(c, x, passes);
+  printf("| engine | text | n | m | library ns a letter | C ns a letter | ratio | scan | shift | steps | work a letter |\n"
+         "|---|---|---|---|---|---|---|---|---|---|---|\n");
+  for (int e = 0; e < 6; e++)
+    for (int v = 0; v < SIZES; v++) {
+      const struct cell *y = &c[v * 12 + 2 * e];
+      const uint64_t *s = sum[v * 6 + e];
+      printf("| %s | %s | %zu | %zu | %.3f | %.3f | %.2f | %llu | %llu | %llu | %.3f |\n", NAME[e], v < 14 ? "names" : "all a", y->n, g[v].m,
+             y[0].best, y[1].best, y[0].best / y[1].best, (unsigned long long)s[0], (unsigned long long)s[1], (unsigned long long)s[2],
+             (double)(s[0] + s[1] + s[2]) / N);
+    }
+  return 0;
+}
+
+int main(int argc, char **argv) {
+  cpu_set_t one;
+  CPU_ZERO(&one);
+  CPU_SET((size_t)sysconf(_SC_NPROCESSORS_ONLN) - 1, &one);
+  sched_setaffinity(0, sizeof one, &one); /* one core throughout; if refused, the times are only less steady */
+  make();
+  if (argc > 4 && !strcmp(argv[1], "once")) {
+    int e = atoi(argv[3]), w = atoi(argv[4]);
+    if (e < 0 || e > 5 || w < 0 || w >= WORKS) return 2;
+    struct work *q = &works[w];
+    int64_t r = (argv[2][0] == 'l' ? LIB : C)[e](q->k, q->p, q->m, q->t, N, hits, N, counts, 3);
+    printf("%s %s on %s: total %lld, tests and steps %llu\n", argv[2], NAME[e], q->name, (long long)r,
+           (unsigned long long)(counts[0] + counts[1] + counts[2]));
+    return 0;
+  }
+  if (argc > 1 && !strcmp(argv[1], "grow")) return grow(argc > 2 ? (size_t)atol(argv[2]) : 100);
+  if (argc > 1 && !strcmp(argv[1], "means")) return table(argc > 2 ? (size_t)atol(argv[2]) : 60, 0);
+  return table(argc > 1 ? (size_t)atol(argv[1]) : 150, 1);
+}
