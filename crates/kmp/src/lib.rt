@@ -14,8 +14,6 @@ use letters::letter::meet;
 use pattern::Pattern;
 use pattern::tables::Shifts;
 use shifts::Trials;
-use shifts::less;
-use shifts::smaller;
 use shifts::try_shifts;
 use shifts::wide;
 ghost use mathlib.Core.Path.{_≡_};
@@ -89,8 +87,16 @@ fn shift_by(
         return try_shifts(p, t, i, 0, h);
     }
     let end = t.len() + 1 - (p.len() + i);
+    let own = wide(by[h]);
+    if end < own {
+        let cut = try_shifts(p, t, i, 0, h);
+        return Trials {
+            by: cut.by,
+            tests: 0,
+        };
+    }
     Trials {
-        by: smaller(wide(by[h]), end),
+        by: own,
         tests: 0,
     }
 }
@@ -118,7 +124,7 @@ fn step(p: &[u32], t: &[u32], by: &[u32; 65], sure: usize, i: usize, r: usize, u
     Turned {
         hit: h == m,
         start: i + s.by,
-        known: less(h, s.by),
+        known: h - s.by,
         unsure: v,
         scan: (h - r) as u64 + count(h < m),
         shift: s.tests,

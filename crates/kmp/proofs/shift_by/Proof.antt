@@ -1,11 +1,12 @@
--- `kmp::shift_by` meets its contract: the shift is tried where a letter is unsure, else it is the pattern's own, cut. Assumes nothing.
-use Prim.Native.Nat.{ℕ, _+_, _-_, min}
-use mathlib.Core.Path.{sym, ap, _∙_}
+-- `kmp::shift_by` meets its contract: the shift is tried where a letter is unsure or the pattern's own is too long, else it is the pattern's own. Assumes nothing.
+use Prim.Native.Nat.{_+_, _-_, _≤_, min}
+use mathlib.Core.Path.{_≡_, sym, _∙_}
 use native.Mathlib.Omega.{arith}
 use borrow.Author.Needs.{needs}
 use borrow.Author.Tests.{le-leb, lt-leb}
 use lib.ListN.{length}
 use Rattle.pattern.proofs.ShiftTable.{front-shift}
+use Rattle.kmp.specs.Kmp.{shiftBy, shiftTests}
 use Rattle.kmp.proofs.KmpLaws.{shift-is}
 use Rattle.kmp.proofs.CarryLaws.{plain-text, tests-plain, tests-unsure-pattern, tests-unsure-text}
 use Rattle.kmp.proofs.shift_by.Statement.{statement}
@@ -53,22 +54,37 @@ element-copy-out-wide c = search needs
 wide-requires : tie.Need-wide-requires
 wide-requires c κs = search needs
 
-smaller-requires : tie.Need-smaller-requires
-smaller-requires c κs = search needs
+try-shifts-requires-3 : tie.Need-try-shifts-requires-3
+try-shifts-requires-3 c κs = search needs
+
+module _ (w : tie.After-wide) where
+  -- where nothing is unsure the rule's shift is the pattern's own, cut, and takes no test
+  cut :
+      let a = w .before .before .before .before .before .before .args in
+      (shiftBy (a .p .now) (a .t .now) (a .i) (a .h) ≡ min (w .wide .result) (length (a .t .now) + 1 - (length (a .p .now) + a .i)))
+      × (shiftTests (a .p .now) (a .t .now) (a .i) (a .h) ≡ 0)
+  cut =
+      let s = w .before .before .before .before .before .before in
+      let a = s .args in
+      let P = a .p .now in
+      let T = a .t .now in
+      let p = s .pre .5 (a .h) (omega arith) ∙ le-leb (a .h) (a .sure) (omega arith) in
+      let t = plain-text T (a .i) (a .h) (a .u) (s .pre .7) ∙ le-leb (a .u) (a .i) (omega arith) in (
+        rw (w .wide .ensures)
+            (shift-is P T (a .i) (a .h) ∙ front-shift P T (a .by .now) (a .i) (a .h) (s .pre .4) (omega arith) (omega arith) (omega arith) (s .pre .6) p t),
+        tests-plain P T (a .i) (a .h) p t,
+      )
 
 returns-3 : tie.Need-returns-3
 returns-3 c =
-    let s = c .before .before .before .before .before .before .before in
-    let a = s .args in
-    let P = a .p .now in
-    let T = a .t .now in
-    let p = s .pre .5 (a .h) (omega arith) ∙ le-leb (a .h) (a .sure) (omega arith) in
-    let t = plain-text T (a .i) (a .h) (a .u) (s .pre .7) ∙ le-leb (a .u) (a .i) (omega arith) in (
-      c .smaller .ensures
-          ∙ ap (λ (x : ℕ). min x (length T + 1 - (length P + a .i))) (c .before .wide .ensures)
-          ∙ sym (shift-is P T (a .i) (a .h) ∙ front-shift P T (a .by .now) (a .i) (a .h) (s .pre .4) (omega arith) (omega arith) (omega arith) (s .pre .6) p t),
-      sym (tests-plain P T (a .i) (a .h) p t),
+    let w = c .before .before in
+    let a = w .before .before .before .before .before .before .args in (
+      c .try-shifts3 .ensures .0 ∙ sym (shift-is (a .p .now) (a .t .now) (a .i) (a .h)),
+      sym (cut w .1),
     )
+
+returns-4 : tie.Need-returns-4
+returns-4 c = (omega (arith, cut (c .before) .0), sym (cut (c .before) .1))
 
 pub shift-by-spec : {M : Type 1} → statement M
 shift-by-spec =
@@ -84,5 +100,6 @@ shift-by-spec =
     mul-wide
     element-copy-out-wide
     wide-requires
-    smaller-requires
-    returns-3)
+    try-shifts-requires-3
+    returns-3
+    returns-4)

@@ -96,8 +96,12 @@ add-t15 c =
     let e = c .before .shift-by .ensures .0 in
     omega (arith, shift-le (a .p .now) (a .t .now) (a .i) (k .scan-on .result .met))
 
-less-requires : tie.Need-less-requires
-less-requires c κs = search needs
+sub-t16 : tie.Need-sub-t16
+sub-t16 c =
+    let b = c .before .before in
+    let k = b .before .before in
+    let a = k .before .before .before .args in
+    omega (arith, b .shift-by .ensures .0, shift-le (a .p .now) (a .t .now) (a .i) (k .scan-on .result .met))
 
 sub-t17 : tie.Need-sub-t17
 sub-t17 c = reached (c .before .before .before .before) .0
@@ -135,17 +139,16 @@ returns-2 c =
     let t = a .t .now in
     let h = k .scan-on .result .met in
     let e = b .shift-by .ensures .0 in (
-      turn-is p t (a .i) _ (a .r) h (b .shift-by .result .by) (c .before .less .result) _ (b .shift-by .result .tests)
+      turn-is p t (a .i) _ (a .r) h (b .shift-by .result .by) (h - b .shift-by .result .by) _ (b .shift-by .result .tests)
           refl
           (k .scan-on .ensures .0)
           e
-          (c .before .less .ensures)
+          refl
           (scanned c)
           (b .shift-by .ensures .1),
-      rw (c .before .less .ensures)
-          (unsure-moved t (a .i) h (k .scan-on .result .unsure) (b .shift-by .result .by) (k .scan-on .ensures .1)
+      unsure-moved t (a .i) h (k .scan-on .result .unsure) (b .shift-by .result .by) (k .scan-on .ensures .1)
           (omega (arith, e, shift-ge p t (a .i) h))
-          (omega (arith, e, shift-le p t (a .i) h))),
+          (omega (arith, e, shift-le p t (a .i) h)),
     )
 
 pub step-spec : {M : Type 1} → statement M
@@ -157,7 +160,7 @@ step-spec =
     returns
     shift-by-requires
     add-t15
-    less-requires
+    sub-t16
     sub-t17
     count-requires
     add-t21
