@@ -10,7 +10,7 @@ use lib.Dec.{eqb, ltb}
 use lib.ListN.{length, getD, drop, length-append}
 use lib.Seq.{append-snoc}
 use Rattle.letters.proofs.Truth.{bool-cases}
-use Rattle.decimal.specs.Decimal.{isDigit, frontDigits, value, decimalTo, decimal}
+use Rattle.decimal.specs.Decimal.{isDigit, frontDigits, value, decimalTo, decimal, ended}
 use Rattle.decimal.proofs.FrontLaws.{digit-range, value-end}
 
 -- bytes that are digits
@@ -221,3 +221,14 @@ decimal-spelled n h = dec-spelled 20 n h (omega arith)
 pub decimal-back : (ds : List ℕ) → length ds ≤ 20 → Digs ds → 0 < length ds → (1 < length ds → getD ds 0 0 ≡ 48 → ⊥) → decimal (value 0 ds) ≡ ds
 unfolding decimal
 decimal-back ds l d p ld = dec-back ds 20 l d p ld
+
+-- a number and a byte
+pub ended-length : (n b : ℕ) → length (ended n b) ≡ length (decimal n) + 1
+unfolding ended
+ended-length n b = length-append (decimal n) (b ∷ [])
+
+pub ended-short : (g n b : ℕ) → n < 10 ^ g → 0 < g → g ≤ 20 → length (ended n b) ≤ g + 1
+ended-short g n b h p l = omega (arith, ended-length n b, decimal-short g n h p l)
+
+pub ended-fits : (n b : ℕ) → n < 2 ^ 64 → length (ended n b) ≤ 21
+ended-fits n b h = ended-short 20 n b (omega arith) (omega arith) (omega arith)

@@ -57,6 +57,20 @@ module _ (d : List ℕ) (at : ℕ) (all : List ℕ) where
 pub so-fits : (d : List ℕ) (at : ℕ) (all left list : List ℕ) (e : ℕ) (vs rest : List ℕ) → SoFar d at all left list e → at + length all ≤ length d → left ≡ vs ++ rest → e + length vs ≤ length list
 so-fits d at all left list e vs rest w h q = omega (arith, so-room d at all left list e w h, ap length q, length-append vs rest)
 
+-- bytes put one after another: the next ones fit, and are written; and the last ones
+module _ {d : List ℕ} {at : ℕ} {all list : List ℕ} {e : ℕ} (vs : List ℕ) where
+  pub so-front : (rest : List ℕ) → SoFar d at all (vs ++ rest) list e → at + length all ≤ length d → e + length vs ≤ length list
+  so-front rest w h = so-fits d at all (vs ++ rest) list e vs rest w h refl
+
+  pub so-next : {list′ : List ℕ} {e′ : ℕ} (rest : List ℕ) → SoFar d at all (vs ++ rest) list e → list′ ≡ sets list e vs → e′ ≡ e + length vs → SoFar d at all rest list′ e′
+  so-next {list′} {e′} rest w q p = so-on d at all (vs ++ rest) list e w vs rest list′ e′ refl q p
+
+  pub so-back : SoFar d at all vs list e → at + length all ≤ length d → e + length vs ≤ length list
+  so-back w h = so-fits d at all vs list e vs [] w h (sym (append-nil vs))
+
+  pub so-last : {list′ : List ℕ} {e′ : ℕ} → SoFar d at all vs list e → list′ ≡ sets list e vs → e′ ≡ e + length vs → (e′ ≡ at + length all) × (list′ ≡ sets d at all)
+  so-last {list′} {e′} w q p = so-end d at all [] list′ e′ refl (so-on d at all vs list e w vs [] list′ e′ (sym (append-nil vs)) q p)
+
 sets-nil : (i : ℕ) (vs : List ℕ) → sets [] i vs ≡ []
 sets-nil i [] = refl
 sets-nil i (v ∷ vs) = sets-nil (suc i) vs

@@ -4,6 +4,7 @@
 --   frontDigits s  the digits in front of s
 --   value v ds     the number that v, and then the digits ds, write
 --   decimal n      the digits of n, with no leading 0 except for 0 itself
+--   ended n b      the digits of n, and the byte b after them
 use Prim.Native.Nat.{ℕ, zero, suc, _+_, _-_, _*_, _/_, _%_}
 use mathlib.Core.Bool.{Bool, cond, _&&_}
 use mathlib.Core.List.{List, [], _∷_, _++_}
@@ -28,3 +29,7 @@ decimalTo (suc f) n = cond (ltb n 10) ((48 + n) ∷ []) (decimalTo f (n / 10) ++
 -- a number of 64 bits has 20 digits at most
 unfoldable pub decimal : ℕ → List ℕ
 decimal n = decimalTo 20 n
+
+-- a number, and the byte after it
+unfoldable pub ended : ℕ → ℕ → List ℕ
+ended n b = decimal n ++ (b ∷ [])

@@ -1,4 +1,5 @@
 // Numbers in decimal digits, there and back.
+pub mod bytes;
 pub mod count;
 
 ghost use mathlib.Core.Path.{_≡_};

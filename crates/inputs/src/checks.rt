@@ -2,6 +2,7 @@
 use crate::refusal::Check;
 use crate::refusal::Refusal;
 use letters::letter::Letter;
+use letters::width::wide;
 use pattern::Pattern;
 ghost use mathlib.Core.Path.{_≡_};
 ghost use Prim.Native.Nat.{_≤_};
@@ -14,12 +15,6 @@ pub struct Text {
 impl Text {
     // The longest text.
     pub const MAX_N: usize = 65536;
-}
-
-fn wide(x: u32) -> u64
-    ensures { λ r. ⌜ r ≡ x ⌝ }
-{
-    x as u64
 }
 
 fn refused(number: u32, place: usize) -> Check

@@ -1,5 +1,5 @@
 // The engine KMP, by its rule for any letters: at a start with r letters already known to meet it tests on from P[r], and then shifts by the least that the letters that now meet allow.
-// 1. Where those letters and the text under them are all single the shift comes from the pattern's own, cut to the first start past the last; else it is found by trying.
+// 1. Where those letters and the text under them are all single the shift is the pattern's own; else, and where that would pass the text's end, it is found by trying.
 // 2. Whether they are single is not found by reading them again: the place of the last unsure text letter that met is carried along.
 use hits::work::Work;
 use hits::work::count;
@@ -86,6 +86,7 @@ fn shift_by(
     if i < u {
         return try_shifts(p, t, i, 0, h);
     }
+    // A branch, and not the smaller of the two: the next start need not wait for it.
     let end = t.len() + 1 - (p.len() + i);
     let own = wide(by[h]);
     if end < own {
@@ -95,10 +96,7 @@ fn shift_by(
             tests: 0,
         };
     }
-    Trials {
-        by: own,
-        tests: 0,
-    }
+    Trials { by: own, tests: 0 }
 }
 
 // A turn at start i, with r letters known to meet.

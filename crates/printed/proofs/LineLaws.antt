@@ -2,7 +2,7 @@
 use mathlib.Core.Path.{_≡_, refl, ap, _∙_}
 use mathlib.Core.Bool.{Bool, true, false}
 use mathlib.Core.List.{List, _++_}
-use Prim.Native.Nat.{ℕ, _+_, _^_, _≤_, _<_}
+use Prim.Native.Nat.{ℕ, _^_, _≤_, _<_}
 use native.Mathlib.Omega.{arith}
 use borrow.Author.Tests.{ltb-false}
 use lib.Dec.{ltb}
@@ -12,8 +12,9 @@ use Rattle.hits.specs.Hits.{over}
 use Rattle.hits.proofs.ListLaws.{length-over}
 use Rattle.inputs.specs.declared.refusal.Refusal.{Refusal}
 use Rattle.sheet.specs.Reader.{Outcome, found, refused, Strings, refuse, andThen}
-use Rattle.reportbytes.specs.Bytes.{ended, bytesOf}
-use Rattle.reportbytes.proofs.LineLaws.{ended-fits}
+use Rattle.decimal.specs.Decimal.{ended}
+use Rattle.reportbytes.specs.Bytes.{bytesOf}
+use Rattle.decimal.proofs.DecimalLaws.{ended-fits}
 use Rattle.report.specs.Values.{valuesOf}
 use Rattle.report.specs.Report.{answerOf, leftOf, readAlone, fitting, reportFor, ReportInto}
 use Rattle.report.specs.declared.Reported.the-variants.{Wrote, Refused}

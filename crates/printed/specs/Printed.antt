@@ -5,7 +5,7 @@ use lib.ListN.{length}
 use Rattle.promise.specs.Promised.{Promised}
 use Rattle.hits.specs.Hits.{over}
 use Rattle.sheet.specs.Reader.{Outcome, found, refused}
-use Rattle.reportbytes.specs.Bytes.{ended}
+use Rattle.decimal.specs.Decimal.{ended}
 use Rattle.report.specs.Report.{reportFor}
 
 -- `refused ` and `at `

@@ -1,23 +1,18 @@
 // What the program prints: the report of a sheet, or the line of its refusal.
+use decimal::bytes::put_bytes;
+use decimal::bytes::put_ended;
 use inputs::checks::Text;
 use inputs::refusal::Refusal;
 use letters::letter::Letter;
+use letters::width::wide;
 use pattern::Pattern;
 use report::Reported;
-use reportbytes::lines::put_bytes;
-use reportbytes::lines::put_ended;
 use sheet::Sheet;
 ghost use mathlib.Core.Path.{_≡_};
 ghost use Prim.Native.Nat.{_≤_};
 ghost use lib.ListN.{length};
 ghost use Rattle.hits.specs.Hits.{over};
 ghost use Rattle.printed.specs.Printed.{refusalLine, PrintInto};
-
-fn wide(x: u32) -> u64
-    ensures { λ r. ⌜ r ≡ x ⌝ }
-{
-    x as u64
-}
 
 // The line of a refusal.
 fn put_refusal(out: &mut [u8], r: Refusal) -> usize

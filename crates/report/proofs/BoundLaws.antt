@@ -24,8 +24,10 @@ use Rattle.shiftand.specs.ShiftAnd.{shiftandRun}
 use Rattle.shiftand.proofs.ShiftAndLaws.{shiftand-scan, shiftand-shift, shiftand-small}
 use Rattle.hybrid.specs.Hybrid.{hybridRun}
 use Rattle.hybrid.proofs.HybridLaws.{no-shift, hybrid-scan, hybrid-steps}
-use Rattle.reportbytes.specs.Bytes.{ended, startLines, counts, engineLines, bytesOf}
-use Rattle.reportbytes.proofs.LineLaws.{ended-short, counts-length, engines-length, bytes-length}
+use Rattle.decimal.specs.Decimal.{ended}
+use Rattle.reportbytes.specs.Bytes.{startLines, counts, engineLines, bytesOf}
+use Rattle.decimal.proofs.DecimalLaws.{ended-short}
+use Rattle.reportbytes.proofs.LineLaws.{counts-length, engines-length, bytes-length}
 use Rattle.report.specs.Values.{valuesOf}
 use Rattle.kmp.proofs.KmpLaws as kmp
 use Rattle.bm.proofs.BmLaws as bm

@@ -23,13 +23,13 @@ use Rattle.sunday.specs.Sunday.{nextStart, sundayTurn, sundayRun}
 use Rattle.shiftand.specs.ShiftAnd.{shiftandTurn, shiftandRun}
 use Rattle.hybrid.specs.Hybrid.{hybridTurn, hybridRun}
 use Rattle.hybrid.specs.Stretches.{stretch}
-use Rattle.decimal.specs.Decimal.{isDigit, frontDigits, value, decimalTo, decimal}
+use Rattle.decimal.specs.Decimal.{isDigit, frontDigits, value, decimalTo, decimal, ended}
 use Rattle.decimal.specs.CountLine.{rightCount, countAt}
 use Rattle.notation.specs.Alphabet.{plain, find, fresh, freshFrom, endAt, alphabetAt}
 use Rattle.notation.specs.Reader.{mayFollow, inner, step, scan}
-use Rattle.sheet.specs.Reader.{Outcome, found, refuse, alphabetSection, letterSection, stringSections, Strings, reading}
+use Rattle.sheet.specs.Reader.{found, refuse, alphabetSection, letterSection, stringSections, Strings, reading}
 use Rattle.reportbytes.specs.Values.{Values}
-use Rattle.reportbytes.specs.Bytes.{ended, startLines, counts, engineLine, engineLines, bytesOf}
+use Rattle.reportbytes.specs.Bytes.{startLines, counts, engineLine, engineLines, bytesOf}
 use Rattle.report.specs.Values.{valuesOf}
 use Rattle.report.specs.Report.{readAlone, fitting, reportFor}
 

@@ -20,7 +20,8 @@ use Rattle.sheet.specs.declared.Answer.{Answer}
 use Rattle.sheet.specs.declared.Answer.the-variants.{Read, Refused as ReadRefused}
 use Rattle.sheet.proofs.SectionLaws.{reading-found}
 use Rattle.sheet.proofs.RoundTrip.{read-accepted}
-use Rattle.reportbytes.specs.Bytes.{hitsName, ended, startLines, counts, engineLine, engineLines, bytesOf}
+use Rattle.decimal.specs.Decimal.{ended}
+use Rattle.reportbytes.specs.Bytes.{hitsName, startLines, counts, engineLine, engineLines, bytesOf}
 use Rattle.reportbytes.specs.Counted.{valuesIn}
 use Rattle.reportbytes.specs.declared.Six.{Six}
 use Rattle.report.specs.Values.{valuesOf, sixOf}

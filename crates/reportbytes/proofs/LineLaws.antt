@@ -1,30 +1,17 @@
 -- The bytes of a report: their lengths, and a list's starts line by line. Assumes nothing.
-use Prim.Native.Nat.{ℕ, _+_, _≤_, _<_, _^_}
-use mathlib.Core.Path.{_≡_, refl, sym, ap, _∙_}
-use mathlib.Core.List.{List, [], _∷_, _++_, append-nil}
+use Prim.Native.Nat.{ℕ, _+_, _≤_, _<_}
+use mathlib.Core.Path.{_≡_, sym, ap, _∙_}
+use mathlib.Core.List.{List, [], _++_}
 use native.Mathlib.Numerals.{add-one}
 use native.Mathlib.Omega.{arith}
 use lib.ListN.{length, getD, take, drop, length-append}
-use lib.Seq.{drop-cons, drop-length, getD-take, length-take-le, sets}
+use lib.Seq.{drop-cons, drop-length, getD-take, length-take-le}
 use Rattle.hits.specs.Turns.{Run}
-use Rattle.decimal.specs.Decimal.{decimal}
-use Rattle.decimal.proofs.DecimalLaws.{decimal-short}
-use Rattle.decimal.proofs.StoreLaws.{SoFar, so-fits, so-on, so-end}
+use Rattle.decimal.specs.Decimal.{ended}
 use Rattle.reportbytes.specs.Values.{Values}
-use Rattle.reportbytes.specs.Bytes.{hitsName, bruteName, kmpName, bmName, sundayName, shiftandName, hybridName, ended, startLines, counts, engineLine, engineLines, bytesOf}
+use Rattle.reportbytes.specs.Bytes.{hitsName, bruteName, kmpName, bmName, sundayName, shiftandName, hybridName, startLines, counts, engineLine, engineLines, bytesOf}
 use Rattle.reportbytes.specs.Counted.{valuesIn}
 use Rattle.reportbytes.specs.declared.Six.{Six}
-
--- a number and a byte
-pub ended-length : (n b : ℕ) → length (ended n b) ≡ length (decimal n) + 1
-unfolding ended
-ended-length n b = length-append (decimal n) (b ∷ [])
-
-pub ended-short : (g n b : ℕ) → n < 10 ^ g → 0 < g → g ≤ 20 → length (ended n b) ≤ g + 1
-ended-short g n b h p l = omega (arith, ended-length n b, decimal-short g n h p l)
-
-pub ended-fits : (n b : ℕ) → n < 2 ^ 64 → length (ended n b) ≤ 21
-ended-fits n b h = ended-short 20 n b (omega arith) (omega arith) (omega arith)
 
 pub counts-length : (r : Run) → length (counts r) ≡ length (ended (r .scan) 32) + length (ended (r .shift) 32) + length (ended (r .steps) 10)
 unfolding counts
@@ -82,20 +69,6 @@ module _ (starts : List ℕ) (total : ℕ) (within : total ≤ length starts) wh
   unfolding startLines
   starts-end i e =
       ap (λ (j : ℕ). startLines (drop j (take total starts))) (e ∙ sym (length-take-le total starts within)) ∙ rw (drop-length (take total starts))
-
--- bytes put one after another: the next ones fit, and are written; and the last ones
-module _ {d : List ℕ} {at : ℕ} {all list : List ℕ} {e : ℕ} (vs : List ℕ) where
-  pub so-front : (rest : List ℕ) → SoFar d at all (vs ++ rest) list e → at + length all ≤ length d → e + length vs ≤ length list
-  so-front rest w h = so-fits d at all (vs ++ rest) list e vs rest w h refl
-
-  pub so-next : {list′ : List ℕ} {e′ : ℕ} (rest : List ℕ) → SoFar d at all (vs ++ rest) list e → list′ ≡ sets list e vs → e′ ≡ e + length vs → SoFar d at all rest list′ e′
-  so-next {list′} {e′} rest w q p = so-on d at all (vs ++ rest) list e w vs rest list′ e′ refl q p
-
-  pub so-back : SoFar d at all vs list e → at + length all ≤ length d → e + length vs ≤ length list
-  so-back w h = so-fits d at all vs list e vs [] w h (sym (append-nil vs))
-
-  pub so-last : {list′ : List ℕ} {e′ : ℕ} → SoFar d at all vs list e → list′ ≡ sets list e vs → e′ ≡ e + length vs → (e′ ≡ at + length all) × (list′ ≡ sets d at all)
-  so-last {list′} {e′} w q p = so-end d at all [] list′ e′ refl (so-on d at all vs list e w vs [] list′ e′ (sym (append-nil vs)) q p)
 
 -- the report of what six engines counted, with its starts in a list
 module _ (six : Six) (starts : List ℕ) (within : six .brute .total ≤ length starts) where

@@ -2,7 +2,7 @@
 use Prim.Native.Nat.{ℕ}
 use mathlib.Core.List.{List, [], _∷_, _++_}
 use lib.ListN.{length}
-use Rattle.decimal.specs.Decimal.{decimal}
+use Rattle.decimal.specs.Decimal.{ended}
 use Rattle.hits.specs.Turns.{Run}
 use Rattle.reportbytes.specs.Values.{Values}
 
@@ -27,10 +27,6 @@ shiftandName = 115 ∷ 104 ∷ 105 ∷ 102 ∷ 116 ∷ 97 ∷ 110 ∷ 100 ∷ 32
 
 abbrev pub hybridName : List ℕ
 hybridName = 104 ∷ 121 ∷ 98 ∷ 114 ∷ 105 ∷ 100 ∷ 32 ∷ []
-
--- a number, and the byte after it
-unfoldable pub ended : ℕ → ℕ → List ℕ
-ended n b = decimal n ++ (b ∷ [])
 
 -- each start on a line
 unfoldable pub startLines : List ℕ → List ℕ

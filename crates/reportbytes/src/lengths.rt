@@ -2,11 +2,13 @@
 use crate::Six;
 use decimal::len;
 use hits::work::Work;
+use letters::width::wide;
 ghost use mathlib.Core.Path.{_≡_};
 ghost use mathlib.Core.List.{[]};
 ghost use Prim.Native.Nat.{_+_, _*_, _≤_};
 ghost use lib.ListN.{length, take};
-ghost use Rattle.reportbytes.specs.Bytes.{ended, startLines, counts, engineLines, bytesOf};
+ghost use Rattle.decimal.specs.Decimal.{ended};
+ghost use Rattle.reportbytes.specs.Bytes.{startLines, counts, engineLines, bytesOf};
 ghost use Rattle.reportbytes.specs.Counted.{runIn, valuesIn};
 
 // A number, and the byte after it, whichever it is.
@@ -21,12 +23,6 @@ fn counts_len(w: Work) -> usize
     ensures { λ r. ⌜ (r ≡ length (counts (runIn w))) × (r ≤ 63) ⌝ }
 {
     ended_len(w.scan) + ended_len(w.shift) + ended_len(w.steps)
-}
-
-fn wide(x: u32) -> u64
-    ensures { λ r. ⌜ r ≡ x ⌝ }
-{
-    x as u64
 }
 
 // The first starts of a list, each on a line.

@@ -1,37 +1,16 @@
 // The bytes of a report, line by line, each put at a place and answering the place after it.
 use crate::Six;
-use decimal::put;
+use decimal::bytes::put_bytes;
+use decimal::bytes::put_ended;
 use hits::work::Work;
+use letters::width::wide;
 ghost use mathlib.Core.Path.{_≡_};
 ghost use mathlib.Core.List.{[]};
 ghost use Prim.Native.Nat.{_+_, _≤_};
 ghost use lib.ListN.{length, take};
 ghost use lib.Seq.{sets};
-ghost use Rattle.reportbytes.specs.Bytes.{ended, startLines, counts, engineLine, engineLines, bytesOf};
+ghost use Rattle.reportbytes.specs.Bytes.{startLines, counts, engineLine, engineLines, bytesOf};
 ghost use Rattle.reportbytes.specs.Counted.{runIn, valuesIn};
-
-// Some bytes.
-pub fn put_bytes(out: &mut [u8], at: usize, bytes: &[u8]) -> usize
-    requires { ⌜ at + length (now bytes) ≤ length (now out) ⌝ }
-    ensures { λ r. ⌜ (r ≡ at + length (now (bytes .entry))) × (now (out .exit) ≡ sets (now (out .entry)) at (now (bytes .entry))) ⌝ }
-{
-    let mut i: usize = 0;
-    while i < bytes.len() {
-        out[at + i] = bytes[i];
-        i += 1;
-    }
-    at + i
-}
-
-// A number, and the byte after it.
-pub fn put_ended(out: &mut [u8], at: usize, n: u64, after: u8) -> usize
-    requires { ⌜ at + length (ended n after) ≤ length (now out) ⌝ }
-    ensures { λ r. ⌜ (r ≡ at + length (ended n after)) × (now (out .exit) ≡ sets (now (out .entry)) at (ended n after)) ⌝ }
-{
-    let e = put(out, at, n);
-    out[e] = after;
-    e + 1
-}
 
 // An engine's three counts, to the end of its line.
 fn put_counts(out: &mut [u8], at: usize, w: Work) -> usize
@@ -50,12 +29,6 @@ fn put_engine(out: &mut [u8], at: usize, name: &[u8], w: Work) -> usize
 {
     let a = put_bytes(out, at, name);
     put_counts(out, a, w)
-}
-
-fn wide(x: u32) -> u64
-    ensures { λ r. ⌜ r ≡ x ⌝ }
-{
-    x as u64
 }
 
 // The first starts of a list, each on a line.

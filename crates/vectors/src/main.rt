@@ -2,6 +2,7 @@
 // the file stdout.
 use inputs::refusal::Answer;
 use inputs::refusal::Refusal;
+use letters::width::wide;
 use libc::STDOUT_FILENO;
 
 fn words(text: &[u8]) {
@@ -11,10 +12,6 @@ fn words(text: &[u8]) {
 fn number(n: u64, after: &[u8]) {
     io::print_decimal(STDOUT_FILENO, n);
     io::write_all(STDOUT_FILENO, after);
-}
-
-fn wide(x: u32) -> u64 {
-    x as u64
 }
 
 fn refused(r: Refusal) {

@@ -1,4 +1,7 @@
 // The bytes of a sheet: letters, lines and counts, one after another.
+use decimal::bytes::put_bytes;
+use decimal::bytes::put_ended;
+use letters::letter::Letter;
 ghost use mathlib.Core.Path.{_≡_};
 ghost use Prim.Native.Nat.{_+_, _*_, _^_, _≤_, _<_};
 ghost use mathlib.Core.List.{[], _∷_, _++_};
@@ -9,29 +12,21 @@ ghost use Rattle.notation.specs.Spelling.{pick, spell, line};
 ghost use Rattle.sheet.specs.Bytes.{sheetBytes};
 ghost use Rattle.writer.specs.Writer.{Below};
 
-// The byte of the letter j.
-fn byte_of(alphabet: &[u8], j: usize) -> u8
-    requires { ⌜ j < length (now alphabet) ⌝ }
-    ensures { λ r. ⌜ r ≡ getD (now (alphabet .entry)) j 0 ⌝ }
-{
-    alphabet[j]
-}
-
 // Writes the bytes of c's members, ascending.
 fn put_members(alphabet: &[u8], c: u32, out: &mut [u8], at: usize) -> usize
-    requires { ⌜ at + length (pick (now alphabet) c) ≤ length (now out) ⌝ }
+    requires { ⌜ (length (now alphabet) ≤ 32) × (at + length (pick (now alphabet) c) ≤ length (now out)) ⌝ }
     ensures { λ r. ⌜ (r ≡ at + length (pick (now (alphabet .entry)) c)) × (now (out .exit) ≡ sets (now (out .entry)) at (pick (now (alphabet .entry)) c)) ⌝ }
 {
-    let mut x = c;
-    let mut j: usize = 0;
+    let k = alphabet.len();
+    let mut left = k;
     let mut e = at;
-    while j < alphabet.len() {
-        if x % 2 == 1 {
-            out[e] = byte_of(alphabet, j);
+    while 0 < left {
+        let b = k - left;
+        if Letter::of(c).has(b as u32) {
+            out[e] = alphabet[b];
             e += 1;
         }
-        x = x / 2;
-        j += 1;
+        left -= 1;
     }
     e
 }
@@ -99,35 +94,12 @@ fn put_line(alphabet: &[u8], letters: &[u32], out: &mut [u8], at: usize) -> usiz
     e + 1
 }
 
-// Writes bytes.
-fn put_all(bytes: &[u8], out: &mut [u8], at: usize) -> usize
-    requires { ⌜ at + length (now bytes) ≤ length (now out) ⌝ }
-    ensures { λ r. ⌜ (r ≡ at + length (now (bytes .entry))) × (now (out .exit) ≡ sets (now (out .entry)) at (now (bytes .entry))) ⌝ }
-{
-    let mut i: usize = 0;
-    while i < bytes.len() {
-        out[at + i] = bytes[i];
-        i += 1;
-    }
-    at + i
-}
-
-// Writes a count line.
-fn put_count(out: &mut [u8], at: usize, n: usize) -> usize
-    requires { ⌜ at + length (decimal n ++ (10 ∷ [])) ≤ length (now out) ⌝ }
-    ensures { λ r. ⌜ (r ≡ at + length (decimal n ++ (10 ∷ []))) × (now (out .exit) ≡ sets (now (out .entry)) at (decimal n ++ (10 ∷ []))) ⌝ }
-{
-    let e = decimal::put(out, at, n as u64);
-    out[e] = 10;
-    e + 1
-}
-
 // Writes the alphabet line.
 fn put_alphabet(alphabet: &[u8], out: &mut [u8], at: usize) -> usize
     requires { ⌜ at + length (now alphabet ++ (10 ∷ [])) ≤ length (now out) ⌝ }
     ensures { λ r. ⌜ (r ≡ at + length (now (alphabet .entry) ++ (10 ∷ []))) × (now (out .exit) ≡ sets (now (out .entry)) at (now (alphabet .entry) ++ (10 ∷ []))) ⌝ }
 {
-    let e = put_all(alphabet, out, at);
+    let e = put_bytes(out, at, alphabet);
     out[e] = 10;
     e + 1
 }
@@ -148,10 +120,10 @@ pub(crate) fn put_sheet(alphabet: &[u8], pattern: &[u32], text: &[u32], out: &mu
     requires { ⌜ (length (now alphabet) ≤ 32) × Below (length (now alphabet)) (now pattern) × Below (length (now alphabet)) (now text) × (length (sheetBytes (now alphabet) (now pattern) (now text)) ≤ length (now out)) ⌝ }
     ensures { λ _. ⌜ now (out .exit) ≡ sets (now (out .entry)) 0 (sheetBytes (now (alphabet .entry)) (now (pattern .entry)) (now (text .entry))) ⌝ }
 {
-    let a = put_count(out, 0, alphabet.len());
+    let a = put_ended(out, 0, alphabet.len() as u64, 10);
     let b = put_alphabet(alphabet, out, a);
-    let c = put_count(out, b, pattern.len());
+    let c = put_ended(out, b, pattern.len() as u64, 10);
     let d = put_line(alphabet, pattern, out, c);
-    let e = put_count(out, d, text.len());
+    let e = put_ended(out, d, text.len() as u64, 10);
     put_line(alphabet, text, out, e);
 }

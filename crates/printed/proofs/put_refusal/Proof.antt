@@ -6,9 +6,8 @@ use native.Mathlib.Omega.{arith}
 use borrow.Author.Needs.{needs}
 use lib.ListN.{length}
 use Rattle.hits.proofs.ListLaws.{length-over}
-use Rattle.decimal.proofs.StoreLaws.{SoFar, so-none, sets-over}
-use Rattle.reportbytes.specs.Bytes.{ended}
-use Rattle.reportbytes.proofs.LineLaws.{so-front, so-next, so-back, so-last}
+use Rattle.decimal.proofs.StoreLaws.{SoFar, so-none, sets-over, so-front, so-next, so-back, so-last}
+use Rattle.decimal.specs.Decimal.{ended}
 use Rattle.printed.specs.Printed.{refusedName, atName, refusalLine}
 use Rattle.printed.proofs.LineLaws.{line-short}
 use Rattle.printed.proofs.put_refusal.Statement.{statement}

@@ -1,7 +1,7 @@
 -- `reportbytes::lengths::ended_len` meets its contract. Assumes nothing.
 use native.Mathlib.Omega.{arith}
 use borrow.Author.Needs.{needs}
-use Rattle.reportbytes.proofs.LineLaws.{ended-length, ended-fits}
+use Rattle.decimal.proofs.DecimalLaws.{ended-length, ended-fits}
 use Rattle.reportbytes.proofs.lengths.ended_len.Statement.{statement}
 use Rattle.reportbytes.proofs.lengths.ended_len.Tie as tie
 

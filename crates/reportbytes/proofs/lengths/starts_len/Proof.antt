@@ -4,7 +4,8 @@ use mathlib.Core.Path.{_≡_, ap, _∙_}
 use native.Mathlib.Omega.{arith}
 use borrow.Author.Needs.{needs}
 use lib.ListN.{length, getD, take, drop, length-append}
-use Rattle.reportbytes.specs.Bytes.{ended, startLines}
+use Rattle.decimal.specs.Decimal.{ended}
+use Rattle.reportbytes.specs.Bytes.{startLines}
 use Rattle.reportbytes.proofs.LineLaws.{starts-on, starts-end}
 use Rattle.reportbytes.proofs.lengths.starts_len.Statement.{statement}
 use Rattle.reportbytes.proofs.lengths.starts_len.Tie as tie

@@ -1,9 +1,9 @@
 -- `reportbytes::lines::put_counts` meets its contract: after each count, what is left to write. Assumes nothing.
 use mathlib.Core.List.{_++_}
 use borrow.Author.Needs.{needs}
-use Rattle.reportbytes.proofs.LineLaws.{so-front, so-next, so-back, so-last}
-use Rattle.decimal.proofs.StoreLaws.{SoFar, so-none}
-use Rattle.reportbytes.specs.Bytes.{ended, counts}
+use Rattle.decimal.proofs.StoreLaws.{SoFar, so-none, so-front, so-next, so-back, so-last}
+use Rattle.decimal.specs.Decimal.{ended}
+use Rattle.reportbytes.specs.Bytes.{counts}
 use Rattle.reportbytes.specs.Counted.{runIn}
 use Rattle.reportbytes.proofs.lines.put_counts.Statement.{statement}
 use Rattle.reportbytes.proofs.lines.put_counts.Tie as tie

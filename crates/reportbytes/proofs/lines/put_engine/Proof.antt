@@ -1,9 +1,8 @@
 -- `reportbytes::lines::put_engine` meets its contract: the name, then the counts. Assumes nothing.
 use borrow.Author.Needs.{needs}
-use Rattle.decimal.proofs.StoreLaws.{SoFar, so-none}
+use Rattle.decimal.proofs.StoreLaws.{SoFar, so-none, so-front, so-next, so-back, so-last}
 use Rattle.reportbytes.specs.Bytes.{counts, engineLine}
 use Rattle.reportbytes.specs.Counted.{runIn}
-use Rattle.reportbytes.proofs.LineLaws.{so-front, so-next, so-back, so-last}
 use Rattle.reportbytes.proofs.lines.put_engine.Statement.{statement}
 use Rattle.reportbytes.proofs.lines.put_engine.Tie as tie
 

@@ -2,11 +2,10 @@
 use Prim.Native.Nat.{ℕ}
 use mathlib.Core.List.{List, [], _++_}
 use borrow.Author.Needs.{needs}
-use Rattle.decimal.proofs.StoreLaws.{SoFar, so-none}
+use Rattle.decimal.proofs.StoreLaws.{SoFar, so-none, so-front, so-next, so-back, so-last}
 use Rattle.reportbytes.specs.Bytes.{bruteName, kmpName, bmName, sundayName, shiftandName, hybridName, engineLine, engineLines}
 use Rattle.reportbytes.specs.Counted.{runIn, valuesIn}
 use Rattle.reportbytes.specs.declared.Six.{Six}
-use Rattle.reportbytes.proofs.LineLaws.{so-front, so-next, so-back, so-last}
 use Rattle.reportbytes.proofs.lines.put_engines.Statement.{statement}
 use Rattle.reportbytes.proofs.lines.put_engines.Tie as tie
 

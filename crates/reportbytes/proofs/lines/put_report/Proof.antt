@@ -4,10 +4,11 @@ use mathlib.Core.List.{[], _++_}
 use native.Mathlib.Omega.{arith}
 use borrow.Author.Needs.{needs}
 use lib.ListN.{length, take}
-use Rattle.decimal.proofs.StoreLaws.{SoFar, so-none, so-same}
-use Rattle.reportbytes.specs.Bytes.{hitsName, ended, startLines, engineLines, bytesOf}
+use Rattle.decimal.proofs.StoreLaws.{SoFar, so-none, so-same, so-front, so-next, so-back, so-last}
+use Rattle.decimal.specs.Decimal.{ended}
+use Rattle.reportbytes.specs.Bytes.{hitsName, startLines, engineLines, bytesOf}
 use Rattle.reportbytes.specs.Counted.{valuesIn}
-use Rattle.reportbytes.proofs.LineLaws.{so-front, so-next, so-back, so-last, report-bytes}
+use Rattle.reportbytes.proofs.LineLaws.{report-bytes}
 use Rattle.reportbytes.proofs.lines.put_report.Statement.{statement}
 use Rattle.reportbytes.proofs.lines.put_report.Tie as tie
 

@@ -5,7 +5,8 @@ use native.Mathlib.Omega.{arith}
 use borrow.Author.Needs.{needs}
 use lib.ListN.{getD, take, drop}
 use Rattle.decimal.proofs.StoreLaws.{SoFar, so-none, so-kept, so-on, so-end, so-fits}
-use Rattle.reportbytes.specs.Bytes.{ended, startLines}
+use Rattle.decimal.specs.Decimal.{ended}
+use Rattle.reportbytes.specs.Bytes.{startLines}
 use Rattle.reportbytes.proofs.LineLaws.{starts-on, starts-end}
 use Rattle.reportbytes.proofs.lines.put_starts.Statement.{statement}
 use Rattle.reportbytes.proofs.lines.put_starts.Tie as tie

@@ -1,5 +1,4 @@
 -- `writer::bytes::put_alphabet` meets its contract. Assumes nothing.
-use Prim.Native.Nat.{_-_}
 use mathlib.Core.Path.{refl}
 use mathlib.Core.List.{[], _∷_}
 use native.Mathlib.Omega.{arith}
@@ -9,8 +8,8 @@ use Rattle.decimal.proofs.StoreLaws.{sets-on}
 use Rattle.writer.proofs.bytes.put_alphabet.Statement.{statement}
 use Rattle.writer.proofs.bytes.put_alphabet.Tie as tie
 
-put-all-requires : tie.Need-put-all-requires
-put-all-requires c κs =
+put-bytes-requires : tie.Need-put-bytes-requires
+put-bytes-requires c κs =
     let st = c .before .before .before in
     omega (arith, st .pre, length-append (st .args .alphabet .now) (10 ∷ []))
 
@@ -18,7 +17,7 @@ slice-write-out : tie.Need-slice-write-out
 slice-write-out c =
     let p = c .before .before in
     let st = p .before .before .before .before in
-    omega (arith, st .pre, length-append (st .args .alphabet .now) (10 ∷ []), p .put-all .ensures .0, p .put-all .kept)
+    omega (arith, st .pre, length-append (st .args .alphabet .now) (10 ∷ []), p .put-bytes .ensures .0, p .put-bytes .kept)
 
 add-result : tie.Need-add-result
 add-result c = search needs
@@ -30,10 +29,10 @@ returns : tie.Need-returns
 returns c =
     let p = c .before .before in
     let st = p .before .before .before .before in (
-      omega (arith, length-append (st .args .alphabet .now) (10 ∷ []), p .put-all .ensures .0),
-      sets-on (st .args .out .now) _ _ (st .args .at) (p .put-all .result) (st .args .alphabet .now) (10 ∷ []) (p .put-all .ensures .1) (p .put-all .ensures .0) refl,
+      omega (arith, length-append (st .args .alphabet .now) (10 ∷ []), p .put-bytes .ensures .0),
+      sets-on (st .args .out .now) _ _ (st .args .at) (p .put-bytes .result) (st .args .alphabet .now) (10 ∷ []) (p .put-bytes .ensures .1) (p .put-bytes .ensures .0) refl,
     )
 
 pub put-alphabet-spec : {M : Type 1} → statement M
 put-alphabet-spec =
-    tie.close (tie.spec put-all-requires slice-write-out add-result same-length returns)
+    tie.close (tie.spec put-bytes-requires slice-write-out add-result same-length returns)

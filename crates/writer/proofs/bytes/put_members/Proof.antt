@@ -1,61 +1,98 @@
--- `writer::bytes::put_members` meets its contract: the members from j on are left to write. Assumes nothing.
+-- `writer::bytes::put_members` meets its contract: the members among the last `left` letters are left to write. Assumes nothing.
 use borrow.Author.Needs.{needs}
 use native.Mathlib.Omega.{arith}
-use mathlib.Core.Path.{ap, _∙_}
+use mathlib.Core.Path.{_≡_, sym, ap, _∙_}
+use mathlib.Core.Bool.{true, false}
 use mathlib.Core.Logic.{⊎-elim}
-use Prim.Native.Nat.{ℕ, _-_, _≤_}
-use lib.ListN.{length, getD, set, drop}
 use mathlib.Core.List.{[], _∷_}
+use Prim.Native.Nat.{_-_, _≤_}
+use lib.ListN.{length, getD}
+use Rattle.letters.specs.Letters.{member}
 use Rattle.notation.specs.Spelling.{pick}
-use Rattle.decimal.proofs.StoreLaws.{SoFar, so-none, so-kept, so-room, so-on, so-end}
-use Rattle.writer.proofs.LineLaws.{pick-at-odd, pick-at-even, pick-at-end}
+use Rattle.decimal.proofs.StoreLaws.{SoFar, so-none, so-same, so-kept, so-room, so-on, so-end}
+use Rattle.writer.proofs.LineLaws.{lastOf, last-all, last-none, last-has, last-not}
 use Rattle.writer.proofs.bytes.put_members.Statement.{statement}
 use Rattle.writer.proofs.bytes.put_members.Tie as tie
 
 abbrev Inv-loop : tie.InvT-loop
-Inv-loop alphabet c out₀ at x₀ j₀ e₀ out x j e = (j ≤ length alphabet) × SoFar out₀ at (pick alphabet c) (pick (drop j alphabet) x) out e
+Inv-loop alphabet c out₀ at k left₀ e₀ out left e = (left ≤ length alphabet) × SoFar out₀ at (pick alphabet c) (lastOf alphabet c left) out e
 
 abbrev μ-loop : tie.MeasureT-loop
-μ-loop alphabet c out₀ at x₀ j₀ e₀ out x j e = length alphabet - j
+μ-loop alphabet c out₀ at k left₀ e₀ out left e = left
 
 loop-holds : tie.Need-loop-holds Inv-loop μ-loop
-loop-holds c = (omega arith, so-none _ _ _)
+loop-holds c =
+    let a = c .before .before .args in
+    (omega arith, so-same _ _ _ _ _ _ (so-none _ _ _) _ (sym (last-all (a .alphabet .now) (a .c))))
 
-byte-of-requires : tie.Need-byte-of-requires Inv-loop μ-loop
-byte-of-requires c κs = search needs
+sub-b : tie.Need-sub-b Inv-loop μ-loop
+sub-b c = search needs
+
+of-requires : tie.Need-of-requires Inv-loop μ-loop
+of-requires c κs = search needs
+
+cast-has : tie.Need-cast-has Inv-loop μ-loop
+cast-has c = let st = c .before .before .before .before .before in omega (arith, st .pre .0)
+
+has-requires : tie.Need-has-requires Inv-loop μ-loop
+has-requires c κs = search needs
+
+module _ (h : tie.After-has Inv-loop μ-loop) where
+  -- a member: its byte is the next of those that are left, so there is room for it
+  has :
+      let l = h .before .before .before in
+      let a = l .before .before .before .args in
+      let A = a .alphabet .now in
+      h .has .result ≡ true → lastOf A (a .c) (l .loop .left) ≡ getD A (length A - l .loop .left) 0 ∷ lastOf A (a .c) (l .loop .left - 1)
+  has e =
+      let l = h .before .before .before in
+      let a = l .before .before .before .args in
+      last-has (a .alphabet .now) (a .c) (l .loop .left) (omega arith) (l .loop .inv .0)
+      (sym e ∙ h .has .ensures ∙ ap (member (length (a .alphabet .now) - l .loop .left)) (h .before .of .ensures))
+
+  -- and no member: those that are left stay as they are
+  not :
+      let l = h .before .before .before in
+      let a = l .before .before .before .args in
+      h .has .result ≡ false → lastOf (a .alphabet .now) (a .c) (l .loop .left) ≡ lastOf (a .alphabet .now) (a .c) (l .loop .left - 1)
+  not e =
+      let l = h .before .before .before in
+      let a = l .before .before .before .args in
+      last-not (a .alphabet .now) (a .c) (l .loop .left) (omega arith) (l .loop .inv .0)
+      (sym e ∙ h .has .ensures ∙ ap (member (length (a .alphabet .now) - l .loop .left)) (h .before .of .ensures))
+
+shared-slice-read-out : tie.Need-shared-slice-read-out Inv-loop μ-loop
+shared-slice-read-out c = search needs
 
 slice-write-out : tie.Need-slice-write-out Inv-loop μ-loop
 slice-write-out c =
-    let l = c .before .before .before in
-    let st = l .before .before .before in
-    let q = pick-at-odd (st .args .alphabet .now) (l .loop .j) (l .loop .x) (omega arith) (c .before .if1 .taken) in
-    omega (arith, so-room _ _ _ _ _ _ (l .loop .inv .1) (st .pre), ap length q)
+    let h = c .before .before in
+    let l = h .before .before .before in
+    omega (arith, so-room _ _ _ _ _ _ (l .loop .inv .1) (l .before .before .before .pre .1), ap length (has h (c .before .if1 .taken)))
 
 add-e : tie.Need-add-e Inv-loop μ-loop
 add-e c =
-    let l = c .before .before .before in
+    let h = c .before .before in
+    let l = h .before .before .before in
     let st = l .before .before .before in
-    let q = pick-at-odd (st .args .alphabet .now) (l .loop .j) (l .loop .x) (omega arith) (c .before .if1 .taken) in
-    omega (arith, so-room _ _ _ _ _ _ (l .loop .inv .1) (st .pre), ap length q, so-kept _ _ _ _ _ _ (l .loop .inv .1), st .good)
+    omega (arith, so-room _ _ _ _ _ _ (l .loop .inv .1) (st .pre .1), ap length (has h (c .before .if1 .taken)), so-kept _ _ _ _ _ _ (l .loop .inv .1), st .good)
 
-add-j : tie.Need-add-j Inv-loop μ-loop
-add-j c = search needs
+sub-left : tie.Need-sub-left Inv-loop μ-loop
+sub-left c = search needs
 
 loop-less : tie.Need-loop-less Inv-loop μ-loop
 loop-less c = search needs
 
 loop-again : tie.Need-loop-again Inv-loop μ-loop
 loop-again c =
-    let l = c .before .before in
+    let h = c .before in
+    let l = h .before .before .before in
     let A = l .before .before .before .args .alphabet .now in
-    let x = l .loop .x in
-    let j = l .loop .j in
     let w = l .loop .inv .1 in (
       omega arith,
       ⊎-elim
-          (λ u. let q = pick-at-odd A j x (omega arith) (u .0 .taken) in
-          so-on _ _ _ _ _ _ w (getD A j 0 ∷ []) _ _ _ q (u .2 ∙ ap (λ (b : ℕ). set (l .loop .out) (l .loop .e) b) (u .1 .ensures)) (u .3))
-          (λ u. let q = pick-at-even A j x (omega arith) (u .0 .left) in so-on _ _ _ _ _ _ w [] _ _ _ q (u .1) (omega (arith, u .2)))
+          (λ u. so-on _ _ _ _ _ _ w (getD A (length A - l .loop .left) 0 ∷ []) _ _ _ (has h (u .0 .taken)) (u .2) (u .3))
+          (λ u. so-on _ _ _ _ _ _ w [] _ _ _ (not h (u .0 .left)) (u .1) (omega (arith, u .2)))
           (c .if1 .came),
     )
 
@@ -65,8 +102,8 @@ same-length c = so-kept _ _ _ _ _ _ (c .before .loop .inv .1)
 returns : tie.Need-returns Inv-loop μ-loop
 returns c =
     let l = c .before in
-    let A = l .before .before .before .args .alphabet .now in
-    so-end _ _ _ _ _ _ (pick-at-end A (l .loop .j) (l .loop .x) (omega arith)) (l .loop .inv .1)
+    let a = l .before .before .before .args in
+    so-end _ _ _ _ _ _ (last-none (a .alphabet .now) (a .c) (l .loop .left) (omega arith)) (l .loop .inv .1)
 
 pub put-members-spec : {M : Type 1} → statement M
 put-members-spec =
@@ -75,10 +112,14 @@ put-members-spec =
     Inv-loop
     μ-loop
     loop-holds
-    byte-of-requires
+    sub-b
+    of-requires
+    cast-has
+    has-requires
+    shared-slice-read-out
     slice-write-out
     add-e
-    add-j
+    sub-left
     loop-less
     loop-again
     same-length

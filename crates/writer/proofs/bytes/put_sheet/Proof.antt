@@ -1,184 +1,140 @@
--- `writer::bytes::put_sheet` meets its contract. Assumes nothing.
-use Prim.Native.Nat.{ℕ, _+_, _-_, _≤_}
-use mathlib.Core.Path.{_≡_, refl, sym, ap, _∙_}
-use mathlib.Core.List.{List, [], _∷_, _++_, append-nil}
+-- `writer::bytes::put_sheet` meets its contract: after each part, what is left to write. Assumes nothing.
+use Prim.Native.Nat.{ℕ, _+_, _≤_}
+use mathlib.Core.List.{List, [], _∷_, _++_}
 use native.Mathlib.Omega.{arith}
 use borrow.Author.Needs.{needs}
 use lib.ListN.{length}
-use lib.Seq.{sets}
+use Rattle.decimal.specs.Decimal.{ended}
+use Rattle.decimal.proofs.StoreLaws.{SoFar, so-none, so-same, so-front, so-next, so-back, so-last}
 use Rattle.notation.specs.Spelling.{line}
-use Rattle.decimal.specs.Decimal.{decimal}
 use Rattle.sheet.specs.Bytes.{sheetBytes}
-use Rattle.decimal.proofs.StoreLaws.{SoFar, so-none, so-on, so-end, so-fits}
-use Rattle.writer.proofs.LineLaws.{line-and}
+use Rattle.writer.proofs.LineLaws.{sheet-parts}
 use Rattle.writer.proofs.bytes.put_sheet.Statement.{statement}
 use Rattle.writer.proofs.bytes.put_sheet.Tie as tie
 
-abbrev r5 : List ℕ → List ℕ → List ℕ → List ℕ
-r5 A P T = line A T
-
-abbrev r4 : List ℕ → List ℕ → List ℕ → List ℕ
-r4 A P T = decimal (length T) ++ (10 ∷ r5 A P T)
-
-abbrev r3 : List ℕ → List ℕ → List ℕ → List ℕ
-r3 A P T = line A P ++ r4 A P T
-
-abbrev r2 : List ℕ → List ℕ → List ℕ → List ℕ
-r2 A P T = decimal (length P) ++ (10 ∷ r3 A P T)
-
-abbrev r1 : List ℕ → List ℕ → List ℕ → List ℕ
-r1 A P T = A ++ (10 ∷ r2 A P T)
-
-abbrev r0 : List ℕ → List ℕ → List ℕ → List ℕ
-r0 A P T = decimal (length A) ++ (10 ∷ r1 A P T)
-
-is-all : (A P T : List ℕ) → sheetBytes A P T ≡ r0 A P T
-unfolding sheetBytes
-is-all A P T = refl
-
--- the bytes `left` of the sheet are left
-abbrev Stage : tie.Start → (List ℕ → List ℕ → List ℕ → List ℕ) → List ℕ → ℕ → Type 0
+-- `left` of the sheet is left to write
+abbrev Stage : tie.Start → List ℕ → List ℕ → ℕ → Type 0
 Stage st left list e =
     let a = st .args in
-    SoFar (a .out .now) 0 (r0 (a .alphabet .now) (a .pattern .now) (a .text .now)) (left (a .alphabet .now) (a .pattern .now) (a .text .now)) list e
+    SoFar (a .out .now) 0 (sheetBytes (a .alphabet .now) (a .pattern .now) (a .text .now)) left list e
 
-room : (st : tie.Start) → let a = st .args in 0 + length (r0 (a .alphabet .now) (a .pattern .now) (a .text .now)) ≤ length (a .out .now)
-room st = let a = st .args in omega (arith, st .pre .3, ap length (is-all (a .alphabet .now) (a .pattern .now) (a .text .now)))
+fits : (st : tie.Start) → let a = st .args in 0 + length (sheetBytes (a .alphabet .now) (a .pattern .now) (a .text .now)) ≤ length (a .out .now)
+fits st = omega (arith, st .pre .3)
 
-w1 : (c : tie.After-put-count) → Stage (c .before .before .before .before .before .before) r1 (c .put-count .last .0) (c .put-count .result)
+-- the text's line; with its count; with the pattern's line; with its count; with the alphabet's
+abbrev r5 : tie.Start → List ℕ
+r5 st = line (st .args .alphabet .now) (st .args .text .now)
+
+abbrev r4 : tie.Start → List ℕ
+r4 st = ended (length (st .args .text .now)) 10 ++ r5 st
+
+abbrev r3 : tie.Start → List ℕ
+r3 st = line (st .args .alphabet .now) (st .args .pattern .now) ++ r4 st
+
+abbrev r2 : tie.Start → List ℕ
+r2 st = ended (length (st .args .pattern .now)) 10 ++ r3 st
+
+abbrev r1 : tie.Start → List ℕ
+r1 st = (st .args .alphabet .now ++ (10 ∷ [])) ++ r2 st
+
+none : (st : tie.Start) → Stage st (ended (length (st .args .alphabet .now)) 10 ++ r1 st) (st .args .out .now) 0
+none st =
+    let a = st .args in
+    so-same _ _ _ _ _ _ (so-none _ _ _) _ (sheet-parts (a .alphabet .now) (a .pattern .now) (a .text .now))
+
+abbrev s1 : tie.After-put-ended → tie.Start
+s1 c = c .before .before .before .before .before .before
+
+w1 : (c : tie.After-put-ended) → Stage (s1 c) (r1 (s1 c)) (c .put-ended .last .0) (c .put-ended .result)
 w1 c =
-    let st = c .before .before .before .before .before .before in
-    let a = st .args in
-    let A = a .alphabet .now in
-    let P = a .pattern .now in
-    let T = a .text .now in
-    let o = a .out .now in
-    so-on o 0 (r0 A P T) (r0 A P T) _ _ (so-none o 0 (r0 A P T)) ((decimal (length A)) ++ (10 ∷ [])) (r1 A P T) _ _ (line-and (decimal (length A)) (r1 A P T)) (c .put-count .ensures .1) (c .put-count .ensures .0)
+    let st = s1 c in
+    so-next (ended (length (st .args .alphabet .now)) 10) _ (none st) (c .put-ended .ensures .1) (c .put-ended .ensures .0)
 
-w2 : (c : tie.After-put-alphabet) → Stage (c .before .before .before .before .before .before .before .before .before .before) r2 (c .put-alphabet .last .1 .0) (c .put-alphabet .result)
+abbrev s2 : tie.After-put-alphabet → tie.Start
+s2 c = s1 (c .before .before .before .before)
+
+w2 : (c : tie.After-put-alphabet) → Stage (s2 c) (r2 (s2 c)) (c .put-alphabet .last .1 .0) (c .put-alphabet .result)
 w2 c =
-    let st = c .before .before .before .before .before .before .before .before .before .before in
-    let a = st .args in
-    let A = a .alphabet .now in
-    let P = a .pattern .now in
-    let T = a .text .now in
-    let o = a .out .now in
-    so-on o 0 (r0 A P T) (r1 A P T) _ _ (w1 (c .before .before .before .before)) (A ++ (10 ∷ [])) (r2 A P T) _ _ (line-and A (r2 A P T)) (c .put-alphabet .ensures .1) (c .put-alphabet .ensures .0)
+    let st = s2 c in
+    so-next (st .args .alphabet .now ++ (10 ∷ [])) _ (w1 (c .before .before .before .before)) (c .put-alphabet .ensures .1) (c .put-alphabet .ensures .0)
 
-w3 : (c : tie.After-put-count2) → Stage (c .before .before .before .before .before .before .before .before .before .before .before .before .before .before) r3 (c .put-count2 .last .0) (c .put-count2 .result)
+abbrev s3 : tie.After-put-ended2 → tie.Start
+s3 c = s2 (c .before .before .before .before)
+
+w3 : (c : tie.After-put-ended2) → Stage (s3 c) (r3 (s3 c)) (c .put-ended2 .last .0) (c .put-ended2 .result)
 w3 c =
-    let st = c .before .before .before .before .before .before .before .before .before .before .before .before .before .before in
-    let a = st .args in
-    let A = a .alphabet .now in
-    let P = a .pattern .now in
-    let T = a .text .now in
-    let o = a .out .now in
-    so-on o 0 (r0 A P T) (r2 A P T) _ _ (w2 (c .before .before .before .before)) ((decimal (length P)) ++ (10 ∷ [])) (r3 A P T) _ _ (line-and (decimal (length P)) (r3 A P T)) (c .put-count2 .ensures .1) (c .put-count2 .ensures .0)
+    let st = s3 c in
+    so-next (ended (length (st .args .pattern .now)) 10) _ (w2 (c .before .before .before .before)) (c .put-ended2 .ensures .1) (c .put-ended2 .ensures .0)
 
-w4 : (c : tie.After-put-line) → Stage (c .before .before .before .before .before .before .before .before .before .before .before .before .before .before .before .before .before .before) r4 (c .put-line .last .1 .1 .0) (c .put-line .result)
+abbrev s4 : tie.After-put-line → tie.Start
+s4 c = s3 (c .before .before .before .before)
+
+w4 : (c : tie.After-put-line) → Stage (s4 c) (r4 (s4 c)) (c .put-line .last .1 .1 .0) (c .put-line .result)
 w4 c =
-    let st = c .before .before .before .before .before .before .before .before .before .before .before .before .before .before .before .before .before .before in
-    let a = st .args in
-    let A = a .alphabet .now in
-    let P = a .pattern .now in
-    let T = a .text .now in
-    let o = a .out .now in
-    so-on o 0 (r0 A P T) (r3 A P T) _ _ (w3 (c .before .before .before .before)) (line A P) (r4 A P T) _ _ refl (c .put-line .ensures .1) (c .put-line .ensures .0)
+    let st = s4 c in
+    so-next (line (st .args .alphabet .now) (st .args .pattern .now)) _ (w3 (c .before .before .before .before)) (c .put-line .ensures .1) (c .put-line .ensures .0)
 
-w5 : (c : tie.After-put-count3) → Stage (c .before .before .before .before .before .before .before .before .before .before .before .before .before .before .before .before .before .before .before .before .before .before) r5 (c .put-count3 .last .0) (c .put-count3 .result)
+abbrev s5 : tie.After-put-ended3 → tie.Start
+s5 c = s4 (c .before .before .before .before)
+
+w5 : (c : tie.After-put-ended3) → Stage (s5 c) (r5 (s5 c)) (c .put-ended3 .last .0) (c .put-ended3 .result)
 w5 c =
-    let st = c .before .before .before .before .before .before .before .before .before .before .before .before .before .before .before .before .before .before .before .before .before .before in
-    let a = st .args in
-    let A = a .alphabet .now in
-    let P = a .pattern .now in
-    let T = a .text .now in
-    let o = a .out .now in
-    so-on o 0 (r0 A P T) (r4 A P T) _ _ (w4 (c .before .before .before .before)) ((decimal (length T)) ++ (10 ∷ [])) (r5 A P T) _ _ (line-and (decimal (length T)) (r5 A P T)) (c .put-count3 .ensures .1) (c .put-count3 .ensures .0)
+    let st = s5 c in
+    so-next (ended (length (st .args .text .now)) 10) _ (w4 (c .before .before .before .before)) (c .put-ended3 .ensures .1) (c .put-ended3 .ensures .0)
 
-put-count-requires : tie.Need-put-count-requires
-put-count-requires c κs =
+put-ended-requires : tie.Need-put-ended-requires
+put-ended-requires c κs =
     let st = c .before .before .before .before .before in
-    let a = st .args in
-    let A = a .alphabet .now in
-    let P = a .pattern .now in
-    let T = a .text .now in
-    let o = a .out .now in
-    so-fits o 0 (r0 A P T) (r0 A P T) _ _ ((decimal (length A)) ++ (10 ∷ [])) (r1 A P T) (so-none o 0 (r0 A P T)) (room st) (line-and (decimal (length A)) (r1 A P T))
+    so-front (ended (length (st .args .alphabet .now)) 10) (r1 st) (none st) (fits st)
 
 put-alphabet-requires : tie.Need-put-alphabet-requires
 put-alphabet-requires c κs =
-    let st = c .before .before .before .before .before .before .before .before .before in
-    let a = st .args in
-    let A = a .alphabet .now in
-    let P = a .pattern .now in
-    let T = a .text .now in
-    let o = a .out .now in
-    so-fits o 0 (r0 A P T) (r1 A P T) _ _ (A ++ (10 ∷ [])) (r2 A P T) (w1 (c .before .before .before)) (room st) (line-and A (r2 A P T))
+    let p = c .before .before .before in
+    let st = s1 p in
+    so-front (st .args .alphabet .now ++ (10 ∷ [])) (r2 st) (w1 p) (fits st)
 
-put-count-requires-2 : tie.Need-put-count-requires-2
-put-count-requires-2 c κs =
-    let st = c .before .before .before .before .before .before .before .before .before .before .before .before .before in
-    let a = st .args in
-    let A = a .alphabet .now in
-    let P = a .pattern .now in
-    let T = a .text .now in
-    let o = a .out .now in
-    so-fits o 0 (r0 A P T) (r2 A P T) _ _ ((decimal (length P)) ++ (10 ∷ [])) (r3 A P T) (w2 (c .before .before .before)) (room st) (line-and (decimal (length P)) (r3 A P T))
+put-ended-requires-2 : tie.Need-put-ended-requires-2
+put-ended-requires-2 c κs =
+    let p = c .before .before .before in
+    let st = s2 p in
+    so-front (ended (length (st .args .pattern .now)) 10) (r3 st) (w2 p) (fits st)
 
 put-line-requires : tie.Need-put-line-requires
 put-line-requires c κs =
-    let st = c .before .before .before .before .before .before .before .before .before .before .before .before .before .before .before .before .before in
-    let a = st .args in
-    let A = a .alphabet .now in
-    let P = a .pattern .now in
-    let T = a .text .now in
-    let o = a .out .now in
-    (st .pre .0, st .pre .1, so-fits o 0 (r0 A P T) (r3 A P T) _ _ (line A P) (r4 A P T) (w3 (c .before .before .before)) (room st) refl)
+    let p = c .before .before .before in
+    let st = s3 p in
+    (st .pre .0, st .pre .1, so-front (line (st .args .alphabet .now) (st .args .pattern .now)) (r4 st) (w3 p) (fits st))
 
-put-count-requires-3 : tie.Need-put-count-requires-3
-put-count-requires-3 c κs =
-    let st = c .before .before .before .before .before .before .before .before .before .before .before .before .before .before .before .before .before .before .before .before .before in
-    let a = st .args in
-    let A = a .alphabet .now in
-    let P = a .pattern .now in
-    let T = a .text .now in
-    let o = a .out .now in
-    so-fits o 0 (r0 A P T) (r4 A P T) _ _ ((decimal (length T)) ++ (10 ∷ [])) (r5 A P T) (w4 (c .before .before .before)) (room st) (line-and (decimal (length T)) (r5 A P T))
+put-ended-requires-3 : tie.Need-put-ended-requires-3
+put-ended-requires-3 c κs =
+    let p = c .before .before .before in
+    let st = s4 p in
+    so-front (ended (length (st .args .text .now)) 10) (r5 st) (w4 p) (fits st)
 
 put-line-requires-2 : tie.Need-put-line-requires-2
 put-line-requires-2 c κs =
-    let st = c .before .before .before .before .before .before .before .before .before .before .before .before .before .before .before .before .before .before .before .before .before .before .before .before .before in
-    let a = st .args in
-    let A = a .alphabet .now in
-    let P = a .pattern .now in
-    let T = a .text .now in
-    let o = a .out .now in
-    (st .pre .0, st .pre .2, so-fits o 0 (r0 A P T) (r5 A P T) _ _ (line A T) [] (w5 (c .before .before .before)) (room st) (sym (append-nil (line A T))))
+    let p = c .before .before .before in
+    let st = s5 p in
+    (st .pre .0, st .pre .2, so-back (r5 st) (w5 p) (fits st))
 
 same-length : tie.Need-same-length
 same-length c = search needs
 
 returns : tie.Need-returns
 returns c =
-    let p = c .before .before in
-    let st = c .before .before .before .before .before .before .before .before .before .before .before .before .before .before .before .before .before .before .before .before .before .before .before .before .before .before .before .before in
-    let a = st .args in
-    let A = a .alphabet .now in
-    let P = a .pattern .now in
-    let T = a .text .now in
-    let o = a .out .now in
-    so-end o 0 (r0 A P T) [] _ _ refl (so-on o 0 (r0 A P T) (r5 A P T) _ _ (w5 (p .before .before .before .before)) (line A T) [] _ _ (sym (append-nil (line A T))) (p .put-line2 .ensures .1) (p .put-line2 .ensures .0)) .1
-    ∙ ap (sets o 0) (sym (is-all A P T))
+    let q = c .before .before in
+    let p = q .before .before .before .before in
+    so-last (r5 (s5 p)) (w5 p) (q .put-line2 .ensures .1) (q .put-line2 .ensures .0) .1
 
 pub put-sheet-spec : {M : Type 1} → statement M
 put-sheet-spec =
     tie.close
     (tie.spec
-    put-count-requires
+    put-ended-requires
     put-alphabet-requires
-    put-count-requires-2
+    put-ended-requires-2
     put-line-requires
-    put-count-requires-3
+    put-ended-requires-3
     put-line-requires-2
     same-length
     returns)

@@ -1,4 +1,4 @@
--- `reportbytes::lines::put_bytes` meets its contract. The loop keeps that the first i bytes are written. Assumes nothing.
+-- `decimal::bytes::put_bytes` meets its contract. The loop keeps that the first i bytes are written. Assumes nothing.
 use Prim.Native.Nat.{ℕ, _+_, _-_, _≤_}
 use mathlib.Core.Path.{_≡_, refl, sym, ap, _∙_}
 use mathlib.Core.List.{[], _∷_, _++_}
@@ -7,9 +7,9 @@ use native.Mathlib.Numerals.{add-one}
 use borrow.Author.Needs.{needs}
 use lib.ListN.{length, getD, take}
 use lib.Seq.{sets, length-sets, take-suc, take-length, length-take-le}
 use Rattle.decimal.proofs.StoreLaws.{sets-on}
-use Rattle.reportbytes.proofs.lines.put_bytes.Statement.{statement}
-use Rattle.reportbytes.proofs.lines.put_bytes.Tie as tie
+use Rattle.decimal.proofs.bytes.put_bytes.Statement.{statement}
+use Rattle.decimal.proofs.bytes.put_bytes.Tie as tie
 
 abbrev Inv-loop : tie.InvT-loop
 Inv-loop out₀ at bytes i₀ out i = (i ≤ length bytes) × (out ≡ sets out₀ at (take i bytes))

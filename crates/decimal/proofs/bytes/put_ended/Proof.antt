@@ -1,14 +1,13 @@
--- `reportbytes::lines::put_ended` meets its contract. Assumes nothing.
+-- `decimal::bytes::put_ended` meets its contract. Assumes nothing.
 use mathlib.Core.Path.{refl}
 use mathlib.Core.List.{[], _∷_}
 use native.Mathlib.Omega.{arith}
 use borrow.Author.Needs.{needs}
-use Rattle.decimal.specs.Decimal.{decimal}
 use Rattle.decimal.proofs.StoreLaws.{sets-on}
-use Rattle.reportbytes.specs.Bytes.{ended}
-use Rattle.reportbytes.proofs.LineLaws.{ended-length}
-use Rattle.reportbytes.proofs.lines.put_ended.Statement.{statement}
-use Rattle.reportbytes.proofs.lines.put_ended.Tie as tie
+use Rattle.decimal.specs.Decimal.{decimal, ended}
+use Rattle.decimal.proofs.DecimalLaws.{ended-length}
+use Rattle.decimal.proofs.bytes.put_ended.Statement.{statement}
+use Rattle.decimal.proofs.bytes.put_ended.Tie as tie
 
 put-requires : tie.Need-put-requires
 put-requires c κs =
