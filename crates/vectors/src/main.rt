@@ -77,6 +77,16 @@ fn sizes_of_n() {
     six(b"n 65537\n", 1, &one, &longer);
 }
 
+// a meets [an], [an] meets n, and a does not meet n.
+fn meeting() {
+    let a = [1u32; 1];
+    let an = [3u32; 1];
+    let n = [2u32; 1];
+    six(b"a in [an]\n", 2, &a, &an);
+    six(b"[an] in n\n", 2, &an, &n);
+    six(b"a in n\n", 2, &a, &n);
+}
+
 // Lists of one, of too few, of enough, and of none.
 fn rooms() {
     let a = [1u32; 1];
@@ -139,6 +149,7 @@ fn main() {
     sizes_of_k();
     sizes_of_m();
     sizes_of_n();
+    meeting();
     rooms();
     sheets();
     capacity();
