@@ -95,10 +95,7 @@ fn shift_by(
             tests: 0,
         };
     }
-    Trials {
-        by: own,
-        tests: 0,
-    }
+    Trials { by: own, tests: 0 }
 }
 
 // A turn at start i, with r letters known to meet.
