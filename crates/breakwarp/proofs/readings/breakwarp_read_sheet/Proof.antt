@@ -27,7 +27,7 @@ returns c =
     let m = c .before in
     let i = m .before .before .before .before in
     let a = i .before .before .before .before .before .before .args in
-    read-short 8192 32 64 65536 (a .s .now) _ (a .sizes .now) (i .if1 .taken) _ _ (m .measure .ensures) (read-back _ (c .short .ok) ∙ c .short .ensures)
+    read-short 8192 32 64 65536 (a .s .now) _ (a .sizes .now) (i .if1 .taken) _ _ (m .measure .ensures .answers) (read-back _ (c .short .ok) ∙ c .short .ensures)
 
 read-requires : tie.Need-read-requires
 read-requires c κs = search needs
