@@ -27,7 +27,7 @@ use Rattle.decimal.specs.Decimal.{isDigit, frontDigits, value, decimalTo, decim
 use Rattle.decimal.specs.CountLine.{rightCount, countAt}
 use Rattle.notation.specs.Alphabet.{plain, find, fresh, freshFrom, endAt, alphabetAt}
 use Rattle.notation.specs.Reader.{mayFollow, inner, step, scan}
-use Rattle.sheet.specs.Reader.{found, refuse, alphabetSection, letterSection, stringSections, Strings, reading}
+use Rattle.sheet.specs.Reader.{found, refuse, alphabetSection, letterSection, stringSections, planning, Strings, reading}
 use Rattle.reportbytes.specs.Values.{Values}
 use Rattle.reportbytes.specs.Bytes.{startLines, counts, engineLine, engineLines, bytesOf}
 use Rattle.report.specs.Values.{valuesOf}
@@ -81,7 +81,7 @@ values =
     }
 
 is-read : readAlone 8192 32 64 65536 sheet ≡ found strings
-unfolding isDigit frontDigits value rightCount countAt plain find fresh freshFrom endAt alphabetAt mayFollow inner step scan refuse alphabetSection letterSection stringSections reading readAlone
+unfolding isDigit frontDigits value rightCount countAt plain find fresh freshFrom endAt alphabetAt mayFollow inner step scan refuse alphabetSection letterSection stringSections planning reading readAlone
 is-read = refl
 
 hits-are : hits P T ≡ 0 ∷ 3 ∷ 8 ∷ []

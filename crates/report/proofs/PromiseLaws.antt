@@ -80,10 +80,10 @@ pub record Good (B K M N : ℕ) (w : Strings) : Type 0 where
 pub good : (B K M N : ℕ) (d : Strings) (s : List ℕ) (w : Strings) → reading B K M N d s ≡ found w → Good B K M N w
 good B K M N d s w q =
     let F = reading-found B K M N d s w q in
-    let t = F .strings .text in
-    let h = scan-short (F .alphabet .string) (drop (t .from) s) out (t .from) (t .string) (t .next) (F .both .text .reads) in
+    let t = F .whole .text in
+    let h = scan-short (F .whole .alphabet .string) (drop (t .from) s) out (t .from) (t .string) (t .next) (F .sections .both .text .reads) in
     record {
-      short = omega (arith, h, length-drop (t .from) s, F .small, ap (λ (x : Strings). length (x .text)) (F .is));
+      short = omega (arith, h, length-drop (t .from) s, F .sections .small, ap (λ (x : Strings). length (x .text)) (F .is));
       passed = read-accepted B K M N d s w q;
     }
 

@@ -17,7 +17,7 @@ use Rattle.notation.specs.declared.alphabet.Bytes.{Bytes}
 use Rattle.notation.specs.declared.alphabet.Bytes.the-variants.{After, Wrong as BytesWrong}
 use Rattle.notation.proofs.AlphabetLaws.{alphabet-read}
 use Rattle.notation.proofs.ReadLaws.{more-got}
-use Rattle.sheet.specs.Reader.{Outcome, found, refused, refuse, andThen, onCount, onAlphabet, onLetters, alphabetSection, letterSection, stringSections, Strings, reading}
+use Rattle.sheet.specs.Reader.{Outcome, found, refused, refuse, andThen, onCount, onAlphabet, onLetters, alphabetSection, letterSection, stringSections, planning, Strings, reading}
 
 -- a line has fewer letters than bytes
 pub scan-short : (A s : List ℕ) (σ : State) (at : ℕ) (cs : List ℕ) (e : ℕ) → scan A σ at s ≡ got cs e → length cs < length s
@@ -119,14 +119,18 @@ module _ (B K M N : ℕ) (s : List ℕ) (d d′ : Strings) (ample : length s ≤
       alike-then _ _ _ _ (letters-alike s A 0 N 3 (length (d .text)) (length (d′ .text)) (p .next) (λ z. omega arith) (λ n h l. (omega (arith, w .0 .text), omega (arith, w .1 .text)))) (λ t.
       alike-refuse (ltb (t .next) (length s)) 15 (t .next) _ _ (λ z. omega arith) (λ b. (refl, λ q e. found-not _ q e))))
 
-  reading-alike : Alike (reading B K M N d s) (reading B K M N d′ s)
-  unfolding reading
-  reading-alike =
+  planning-alike : Alike (planning B K M N (length (d .alphabet)) (length (d .pattern)) (length (d .text)) s) (planning B K M N (length (d′ .alphabet)) (length (d′ .pattern)) (length (d′ .text)) s)
+  unfolding planning
+  planning-alike =
       alike-refuse (ltb B (length s)) 10 0 _ _ (λ z. omega arith) (λ b.
       let small : length s ≤ B = ltb-false B (length s) b in
       let w = ample small in
       alike-then _ _ _ _ (alphabet-alike s K (length (d .alphabet)) (length (d′ .alphabet)) (λ k h l. (w .0 .alphabet k h l, w .1 .alphabet k h l))) (λ a.
       alike-then _ _ _ _ (strings-alike small (a .string) (a .next)) (λ v. (refl, λ q e. found-not _ q e))))
+
+  reading-alike : Alike (reading B K M N d s) (reading B K M N d′ s)
+  unfolding reading
+  reading-alike = alike-then _ _ _ _ planning-alike (λ w. (refl, λ q e. found-not _ q e))
 
   -- the reading is the same
   pub same-reading : reading B K M N d s ≡ reading B K M N d′ s

@@ -114,9 +114,12 @@ pub known : (o : Outcome Section) (n from next : ℕ) → foundOf o ≡ At n fro
 known (refused x y) n from next e = absurd (let z : _≡_ {A = ℕ} 0 1 = cc in omega arith)
 known (found w) n from next e = record { section = w; is = refl; size = cc; begins = cc; ends = cc }
 
--- a refused section
+-- a refusal, from what the code says of it
+pub same-refusal : {A : Type 0} (x y : ℕ) (r : Refusal) → no x y ≡ r → _≡_ {A = Outcome A} (refused x y) (refused (r .number) (r .place))
+same-refusal x y r e = ap₂ refused (ap (λ (w : Refusal). w .number) e) (ap (λ (w : Refusal). w .place) e)
+
 pub unfound : (o : Outcome Section) (r : Refusal) → foundOf o ≡ Refused r → o ≡ refused (r .number) (r .place)
-unfound (refused x y) r e = let z : no x y ≡ r = cc in ap₂ refused (ap (λ (w : Refusal). w .number) z) (ap (λ (w : Refusal). w .place) z)
+unfound (refused x y) r e = same-refusal x y r (cc)
 unfound (found w) r e = absurd (let z : _≡_ {A = ℕ} 0 1 = cc in omega arith)
 
 module _ (M N : ℕ) (A : List ℕ) (roomP roomT : ℕ) (s : List ℕ) (at : ℕ) where

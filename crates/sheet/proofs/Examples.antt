@@ -6,7 +6,7 @@ use Rattle.decimal.specs.Decimal.{isDigit, frontDigits, value}
 use Rattle.decimal.specs.CountLine.{rightCount, countAt}
 use Rattle.notation.specs.Alphabet.{plain, find, fresh, freshFrom, endAt, alphabetAt}
 use Rattle.notation.specs.Reader.{mayFollow, inner, step, scan}
-use Rattle.sheet.specs.Reader.{Outcome, found, refused, refuse, alphabetSection, letterSection, stringSections, Strings, reading}
+use Rattle.sheet.specs.Reader.{Outcome, found, refused, refuse, alphabetSection, letterSection, stringSections, planning, Strings, reading}
 
 record Case : Type 0 where
   sheet : List ℕ
@@ -52,5 +52,5 @@ abbrev due : Case → Outcome Strings
 due c = c .outcome
 
 pub table : map read cases ≡ map due cases
-unfolding isDigit frontDigits value rightCount countAt plain find fresh freshFrom endAt alphabetAt mayFollow inner step scan refuse alphabetSection letterSection stringSections reading
+unfolding isDigit frontDigits value rightCount countAt plain find fresh freshFrom endAt alphabetAt mayFollow inner step scan refuse alphabetSection letterSection stringSections planning reading
 table = refl

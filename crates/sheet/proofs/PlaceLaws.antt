@@ -20,7 +20,7 @@ use Rattle.notation.specs.declared.alphabet.Bytes.{Bytes}
 use Rattle.notation.specs.declared.alphabet.Bytes.the-variants.{After, Wrong as BytesWrong}
 use Rattle.notation.proofs.AlphabetWrong.{alphabet-first-wrong}
 use Rattle.notation.proofs.ReadLaws.{first-wrong}
-use Rattle.sheet.specs.Reader.{Outcome, found, refused, refuse, andThen, onCount, onAlphabet, onLetters, Section, alphabetSection, letterSection, patternBounds, textBounds, stringSections, Strings, reading}
+use Rattle.sheet.specs.Reader.{Outcome, found, refused, refuse, andThen, onCount, onAlphabet, onLetters, Section, alphabetSection, letterSection, patternBounds, textBounds, stringSections, planning, Strings, reading}
 use Rattle.sheet.specs.declared.sections.Bounds.{Bounds}
 use Rattle.sheet.proofs.SectionLaws.{alphabet-section-found}
 
@@ -114,9 +114,16 @@ then-refused (refused x y) f n q e = inl (let a : x ≡ n = cc in let b : y ≡ 
 then-refused (found x) f n q e = inr (x, refl, e)
 
 module _ (B K M N : ℕ) (d : Strings) (s : List ℕ) (q : ℕ) where
+  -- a refused sheet is refused by its plan
+  plan-refused : (n : ℕ) → reading B K M N d s ≡ refused n q → planning B K M N (length (d .alphabet)) (length (d .pattern)) (length (d .text)) s ≡ refused n q
+  unfolding reading
+  plan-refused n e =
+      ⊎-elim (λ p. p) (λ w. absurd (not-found n q _ (w .2)))
+      (then-refused (planning B K M N (length (d .alphabet)) (length (d .pattern)) (length (d .text)) s) _ n q e)
+
   -- 12 names the first wrong byte of the alphabet line
   pub place-12 : K ≤ 32 → reading B K M N d s ≡ refused 12 q → WrongLine AlphabetLine s 0 q
-  unfolding reading stringSections
+  unfolding planning stringSections
   place-12 h e =
       ⊎-elim (λ a. alphabet-place K (length (d .alphabet)) s q h a)
       (λ w. absurd
@@ -128,7 +135,7 @@ module _ (B K M N : ℕ) (d : Strings) (s : List ℕ) (q : ℕ) where
       (then-refused (letterSection (w .0 .string) (patternBounds M (length (d .pattern))) s (w .0 .next)) _ 12 q z))
       (λ v. not-found 12 q _ (v .2))
       (then-refused (stringSections M N (w .0 .string) (length (d .pattern)) (length (d .text)) s (w .0 .next)) _ 12 q (w .2))))
-      (then-refused (alphabetSection K (length (d .alphabet)) s) _ 12 q (past 12 q (ltb B (length s)) 10 0 _ (λ z. omega arith) e .1))
+      (then-refused (alphabetSection K (length (d .alphabet)) s) _ 12 q (past 12 q (ltb B (length s)) 10 0 _ (λ z. omega arith) (plan-refused 12 e) .1))
 
   -- 13 names the first wrong byte of the pattern's line or, where that is right, of the text's
   pub record Place13 : Type 0 where
@@ -139,7 +146,7 @@ module _ (B K M N : ℕ) (d : Strings) (s : List ℕ) (q : ℕ) where
         × WrongLine (λ _. LetterLine (alphabet .string)) s (p .next) q)
 
   pub place-13 : reading B K M N d s ≡ refused 13 q → Place13
-  unfolding reading stringSections
+  unfolding planning stringSections
   place-13 e =
       ⊎-elim (λ a. absurd (alphabet-not-13 K (length (d .alphabet)) s q a))
       (λ w. let al = alphabet-section-found K (length (d .alphabet)) s (w .0) (w .1) .right in
@@ -155,4 +162,4 @@ module _ (B K M N : ℕ) (d : Strings) (s : List ℕ) (q : ℕ) where
             (λ v. absurd (not-found 13 q _ (v .2)))
             (then-refused (stringSections M N (w .0 .string) (length (d .pattern)) (length (d .text)) s (w .0 .next)) _ 13 q (w .2));
       })
-      (then-refused (alphabetSection K (length (d .alphabet)) s) _ 13 q (past 13 q (ltb B (length s)) 10 0 _ (λ z. omega arith) e .1))
+      (then-refused (alphabetSection K (length (d .alphabet)) s) _ 13 q (past 13 q (ltb B (length s)) 10 0 _ (λ z. omega arith) (plan-refused 13 e) .1))

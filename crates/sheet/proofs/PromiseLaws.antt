@@ -1,74 +1,114 @@
--- The promise of the reader, case by case. Assumes nothing.
-use mathlib.Core.Path.{_≡_, refl, sym, ap, ap₂, _∙_}
+-- The promise of the reader, by the plan of the sheet: what a plan says of the sheet, and what is answered and left by it. Assumes nothing.
+use mathlib.Core.Path.{_≡_, refl, sym, ap, _∙_, subst}
 use mathlib.Core.List.{List}
-use Prim.Native.Nat.{ℕ, _≤_, _<_}
+use Prim.Native.Nat.{ℕ, _≤_}
 use native.Mathlib.Omega.{arith}
-use borrow.Author.Tests.{lt-ltb, le-ltb}
-use lib.ListN.{length}
+use lib.ListN.{length, drop}
 use Rattle.hits.specs.Hits.{over}
 use Rattle.inputs.specs.declared.refusal.Refusal.{Refusal}
-use Rattle.sheet.specs.Reader.{Outcome, found, refused, refuse, Section, alphabetSection, Sections, stringSections, Strings, reading}
-use Rattle.sheet.specs.Answers.{foundOf, bothOf, answerOf, leftOf, ReadInto}
-use Rattle.sheet.specs.declared.sections.Found.the-variants.{Refused as FoundRefused}
-use Rattle.sheet.specs.declared.sections.Both.the-variants.{Whole, Refused as BothRefused}
-use Rattle.sheet.specs.declared.sections.Places.{Places}
+use Rattle.notation.specs.Reader.{out, Read, got, scan}
+use Rattle.notation.specs.Answers.{lettersOf, Room}
+use Rattle.sheet.specs.Reader.{Outcome, found, refused, Section, Whole, planning, Strings, reading}
+use Rattle.sheet.specs.Answers.{linesOf, plannedOf, answerOf, leftOf, ReadInto, Measured}
+use Rattle.sheet.specs.declared.sections.Bounds.{Bounds}
+use Rattle.sheet.specs.declared.plan.Lines.{Lines}
+use Rattle.sheet.specs.declared.plan.Planned.the-variants.{Whole as PlannedWhole, Refused as PlannedRefused}
 use Rattle.sheet.specs.declared.Answer.{Answer}
-use Rattle.sheet.specs.declared.Answer.the-variants.{Read, Refused}
-use Rattle.sheet.proofs.CaseLaws.{no, unfound}
+use Rattle.sheet.specs.declared.Answer.the-variants.{Read as AnswerRead, Refused}
+use Rattle.sheet.proofs.SectionLaws.{lent, AlphabetLent, lent-is, alphabet-lent, LettersFound, planning-found}
+use Rattle.sheet.proofs.CaseLaws.{same-refusal}
 
--- both sections that were found, from what the code says of them
-pub record BothKnown (o : Outcome Sections) (w : Places) : Type 0 where
-  pub sections : Sections
-  pub is : o ≡ found sections
-  pub m : length (sections .pattern .string) ≡ w .m
-  pub pattern : sections .pattern .from ≡ w .pattern
-  pub n : length (sections .text .string) ≡ w .n
-  pub text : sections .text .from ≡ w .text
+-- what is read from a place over the alphabet that a plan lends
+abbrev lineIn : List ℕ → Lines → ℕ → Read
+lineIn s p from = scan (lent s (p .alphabet) (p .k)) out from (drop from s)
 
-pub both-known : (o : Outcome Sections) (w : Places) → bothOf o ≡ Whole w → BothKnown o w
-both-known (refused x y) w e = absurd (let z : _≡_ {A = ℕ} 0 1 = cc in omega arith)
-both-known (found v) w e =
-    let is : record { m = length (v .pattern .string); pattern = v .pattern .from; n = length (v .text .string); text = v .text .from } ≡ w = cc in
-    record {
-      sections = v;
-      is = refl;
-      m = ap (λ (x : Places). x .m) is;
-      pattern = ap (λ (x : Places). x .pattern) is;
-      n = ap (λ (x : Places). x .n) is;
-      text = ap (λ (x : Places). x .text) is;
-    }
+-- a line that lies in the sheet, whose n letters have room
+pub record LineFound (s : List ℕ) (p : Lines) (from n room : ℕ) : Type 0 where
+  pub within : from ≤ length s
+  pub fits : Room (lineIn s p from) room
+  pub size : length (lettersOf (lineIn s p from)) ≡ n
 
-both-unfound : (o : Outcome Sections) (r : Refusal) → bothOf o ≡ BothRefused r → o ≡ refused (r .number) (r .place)
-both-unfound (refused x y) r e = let z : no x y ≡ r = cc in ap₂ refused (ap (λ (w : Refusal). w .number) z) (ap (λ (w : Refusal). w .place) z)
-both-unfound (found w) r e = absurd (let z : _≡_ {A = ℕ} 0 1 = cc in omega arith)
+-- the strings of a plan
+abbrev stringsIn : List ℕ → Lines → Strings
+stringsIn s p =
+    record { alphabet = lent s (p .alphabet) (p .k); pattern = lettersOf (lineIn s p (p .pattern)); text = lettersOf (lineIn s p (p .text)) }
+
+-- what the plan p of the sheet s for the lent lists d says
+pub record LinesFound (B K M N : ℕ) (s : List ℕ) (d : Strings) (p : Lines) : Type 0 where
+  pub reads : reading B K M N d s ≡ found (stringsIn s p)
+  pub alphabet : AlphabetLent K (length (d .alphabet)) s (p .alphabet) (p .k)
+  pub pattern : LineFound s p (p .pattern) (p .m) (length (d .pattern))
+  pub text : LineFound s p (p .text) (p .n) (length (d .text))
+
+known-lines : (o : Outcome Whole) (p : Lines) → plannedOf o ≡ PlannedWhole p → (w : Whole) × (o ≡ found w) × (linesOf w ≡ p)
+known-lines (refused x y) p e = absurd (let z : _≡_ {A = ℕ} 0 1 = cc in omega arith)
+known-lines (found w) p e = (w, refl, (cc))
+
+unplanned : (o : Outcome Whole) (r : Refusal) → plannedOf o ≡ PlannedRefused r → o ≡ refused (r .number) (r .place)
+unplanned (refused x y) r e = same-refusal x y r (cc)
+unplanned (found w) r e = absurd (let z : _≡_ {A = ℕ} 0 1 = cc in omega arith)
+
+-- a section of letters is a line of the plan
+module _ (s : List ℕ) (p : Lines) {A : List ℕ} {b : Bounds} {at : ℕ} {w : Section} (is : lent s (p .alphabet) (p .k) ≡ A) (f : LettersFound A b s at w) where
+  line-reads : lineIn s p (w .from) ≡ got (w .string) (w .next)
+  line-reads = ap (λ (X : List ℕ). scan X out (w .from) (drop (w .from) s)) is ∙ f .reads
+
+  line-found : LineFound s p (w .from) (length (w .string)) (b .room)
+  line-found =
+      record {
+        within = f .within;
+        fits = record { letters = w .string; next = w .next; reads = line-reads; room = f .fits };
+        size = ap (λ (r : Read). length (lettersOf r)) line-reads;
+      }
+
+same-strings : (A A′ P P′ T T′ : List ℕ) → A ≡ A′ → P ≡ P′ → T ≡ T′
+    → _≡_ {A = Strings} (record { alphabet = A; pattern = P; text = T }) (record { alphabet = A′; pattern = P′; text = T′ })
+same-strings A A′ P P′ T T′ a p t = cc
+
+same-sizes : (k k′ m m′ n n′ : ℕ) → k ≡ k′ → m ≡ m′ → n ≡ n′ → AnswerRead (record { k = k; m = m; n = n }) ≡ AnswerRead (record { k = k′; m = m′; n = n′ })
+same-sizes k k′ m m′ n n′ ek em en = cc
 
 module _ (B K M N : ℕ) (s : List ℕ) (d : Strings) where
-  by : (o : Outcome Strings) → reading B K M N d s ≡ o → (r : Answer) (after : Strings) → r ≡ answerOf o → after ≡ leftOf o d → ReadInto B K M N s d r after
-  by o e r after p q =
-      record { answers = p ∙ ap answerOf (sym e); leaves = q ∙ ap (λ (x : Outcome Strings). leftOf x d) (sym e) }
+  abbrev plan : Outcome Whole
+  plan = planning B K M N (length (d .alphabet)) (length (d .pattern)) (length (d .text)) s
 
-  pub too-long : B < length s → ReadInto B K M N s d (Refused (no 10 0)) d
-  unfolding reading refuse
-  too-long h = by (refused 10 0) (rw (lt-ltb B (length s) h)) _ _ refl refl
+  whole-found : (w : Whole) → plan ≡ found w → LinesFound B K M N s d (linesOf w)
+  unfolding reading
+  whole-found w q =
+      let p = linesOf w in
+      let F = planning-found B K M N _ _ _ s w q in
+      let is = lent-is (F .alphabet) refl refl in
+      let P = F .both .pattern in
+      let T = F .both .text in
+      record {
+        reads = rw q (ap found (sym (same-strings _ _ _ _ _ _ is (ap lettersOf (line-reads s p is P)) (ap lettersOf (line-reads s p is T)))));
+        alphabet = alphabet-lent (F .alphabet) refl refl;
+        pattern = line-found s p is P;
+        text = line-found s p is T;
+      }
 
-  module _ (small : length s ≤ B) where
-    pub alphabet-refused : (r : Refusal) → foundOf (alphabetSection K (length (d .alphabet)) s) ≡ FoundRefused r → ReadInto B K M N s d (Refused r) d
-    unfolding reading refuse
-    alphabet-refused r e = by (refused (r .number) (r .place)) (rw (le-ltb B (length s) small, unfound (alphabetSection K (length (d .alphabet)) s) r e)) _ _ refl refl
+  pub lines-found : (p : Lines) → plannedOf plan ≡ PlannedWhole p → LinesFound B K M N s d p
+  lines-found p e =
+      let k = known-lines _ p e in
+      subst (LinesFound B K M N s d) (k .2) (whole-found (k .0) (k .1))
 
-    module _ (a : Section) (ha : alphabetSection K (length (d .alphabet)) s ≡ found a) where
-      pub strings-refused : (r : Refusal)
-          → bothOf (stringSections M N (a .string) (length (d .pattern)) (length (d .text)) s (a .next)) ≡ BothRefused r
-          → ReadInto B K M N s d (Refused r) d
-      unfolding reading refuse
-      strings-refused r e =
-          by (refused (r .number) (r .place))
-          (rw (le-ltb B (length s) small, ha, both-unfound (stringSections M N (a .string) (length (d .pattern)) (length (d .text)) s (a .next)) r e))
-          _ _ refl refl
+  -- a sheet with no plan
+  pub not-read : (r : Refusal) → plannedOf plan ≡ PlannedRefused r → ReadInto B K M N s d (Refused r) d
+  unfolding reading
+  not-read r e = rw (unplanned plan r e) (record { answers = refl; leaves = refl })
 
-      module _ (w : Sections) (hw : stringSections M N (a .string) (length (d .pattern)) (length (d .text)) s (a .next) ≡ found w) where
-        pub read-whole : ReadInto B K M N s d (Read (record { k = length (a .string); m = length (w .pattern .string); n = length (w .text .string) }))
-            (record { alphabet = over (a .string) (d .alphabet); pattern = over (w .pattern .string) (d .pattern); text = over (w .text .string) (d .text) })
-        unfolding reading refuse
-        read-whole =
-            by (found (record { alphabet = a .string; pattern = w .pattern .string; text = w .text .string })) (rw (le-ltb B (length s) small, ha, hw)) _ _ refl refl
+  -- a sheet with a plan, whose strings are left in the lent lists
+  pub read-whole : (p : Lines) → LinesFound B K M N s d p → (A P T : List ℕ)
+      → A ≡ over (stringsIn s p .alphabet) (d .alphabet)
+      → P ≡ over (stringsIn s p .pattern) (d .pattern)
+      → T ≡ over (stringsIn s p .text) (d .text)
+      → ReadInto B K M N s d (AnswerRead (record { k = p .k; m = p .m; n = p .n })) (record { alphabet = A; pattern = P; text = T })
+  read-whole p f A P T ea ep et =
+      record {
+        answers = sym (ap answerOf (f .reads) ∙ same-sizes _ _ _ _ _ _ (f .alphabet .size) (f .pattern .size) (f .text .size));
+        leaves = same-strings _ _ _ _ _ _ ea ep et ∙ ap (λ (o : Outcome Strings). leftOf o d) (sym (f .reads));
+      }
+
+  -- the answer alone
+  pub measured : (r : Answer) (after : Strings) → ReadInto B K M N s d r after → Measured B K M N s d r
+  measured r after p = record { answers = p .answers; leaves = refl }

@@ -19,7 +19,7 @@ use Rattle.notation.specs.declared.alphabet.Bytes.the-variants.{After}
 use Rattle.notation.proofs.AlphabetLaws.{alphabet-read, alphabet-listed}
 use Rattle.notation.proofs.ReadLaws.{line-read, read-line}
 use Rattle.sheet.specs.Bytes.{sheetBytes, Accepted, RightSheet}
-use Rattle.sheet.specs.Reader.{Outcome, found, refuse, Section, alphabetSection, letterSection, patternBounds, textBounds, stringSections, Strings, reading}
+use Rattle.sheet.specs.Reader.{Outcome, found, refuse, Section, alphabetSection, letterSection, patternBounds, textBounds, stringSections, planning, Strings, reading}
 use Rattle.sheet.specs.declared.sections.Bounds.{Bounds}
 use Rattle.sheet.proofs.SectionLaws.{LettersFound, reading-found}
 use Rattle.sheet.proofs.AcceptLaws.{passing, passes}
@@ -56,19 +56,20 @@ pub read-right : (B K M N : ℕ) (d : Strings) (s : List ℕ) (w : Strings) → 
 unfolding sheetBytes
 read-right B K M N d s w q =
     let F = reading-found B K M N d s w q in
-    let a = F .alphabet in
+    let a = F .whole .alphabet in
     let A = a .string in
-    let al = F .listed in
-    let p = F .strings .pattern in
-    let t = F .strings .text in
+    let al = F .sections .alphabet in
+    let both = F .sections .both in
+    let p = F .whole .pattern in
+    let t = F .whole .text in
     let c = count-written 0 s (length A) (a .from) (al .counted) in
     let l = alphabet-read (length A) (a .from) (drop (a .from) s) (a .next) (al .listed) in
     let isA : A ≡ l .bytes = al .part ∙ ap (take (length A)) (l .split) ∙ take-at (l .bytes) (10 ∷ l .rest) (length A) (l .size) in
     let h1 : drop (a .from) s ≡ c .rest = on-line s 0 (decimal (length A)) (c .rest) (a .from) (c .bytes) (c .place) in
     let h2 : drop (a .next) s ≡ l .rest = on-line s (a .from) (l .bytes) (l .rest) (a .next) (l .split) (omega (arith, l .place, l .size)) in
-    let P = letters-line A _ s (a .next) p (al .right) (F .both .pattern) in
-    let T = letters-line A _ s (p .next) t (al .right) (F .both .text) in
-    let none : drop (t .next) s ≡ [] = ap (λ (i : ℕ). drop i s) (F .both .end) ∙ drop-length s in
+    let P = letters-line A _ s (a .next) p (al .right) (both .pattern) in
+    let T = letters-line A _ s (p .next) t (al .right) (both .text) in
+    let none : drop (t .next) s ≡ [] = ap (λ (i : ℕ). drop i s) (both .end) ∙ drop-length s in
     let bytes : s ≡ sheetBytes A (p .string) (t .string)
     = c .bytes
     ∙ ap (λ (ys : List ℕ). decimal (length A) ++ (10 ∷ ys)) (sym h1 ∙ l .split ∙ ap₂ (λ (xs ys : List ℕ). xs ++ (10 ∷ ys)) (sym isA) (sym h2 ∙ P .1))
@@ -82,13 +83,13 @@ read-right B K M N d s w q =
         passed = passes K M N (length A) (p .string) (t .string) (record {
           some = al .some;
           few = al .few;
-          long = F .both .pattern .low;
-          short = F .both .pattern .high;
-          small = F .both .text .high;
+          long = both .pattern .low;
+          short = both .pattern .high;
+          small = both .text .high;
           pattern = P .0;
           text = T .0;
         });
-        fits = subst (λ (xs : List ℕ). length xs ≤ B) bytes (F .small);
+        fits = subst (λ (xs : List ℕ). length xs ≤ B) bytes (F .sections .small);
       },
       bytes,
     )
@@ -119,7 +120,7 @@ pub record Roomy (A P T : List ℕ) (d : Strings) : Type 0 where
 module _ (B K M N : ℕ) (fewK : K < 100000) (fewM : M < 100000) (fewN : N < 100000) where
   pub right-read : (A P T : List ℕ) (d : Strings) → Accepted B K M N A P T → Roomy A P T d
       → reading B K M N d (sheetBytes A P T) ≡ found (record { alphabet = A; pattern = P; text = T })
-  unfolding sheetBytes reading stringSections refuse
+  unfolding sheetBytes reading planning stringSections refuse
   right-read A P T d w room =
       let v = passing K M N (length A) P T (w .passed) in
       let s = sheetBytes A P T in

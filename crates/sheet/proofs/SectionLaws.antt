@@ -1,8 +1,8 @@
 -- What a section that was found says of the sheet. Assumes nothing.
-use mathlib.Core.Path.{_≡_, refl, sym, ap, _∙_, subst}
+use mathlib.Core.Path.{_≡_, refl, sym, ap, ap₂, _∙_, subst}
 use mathlib.Core.Bool.{Bool, true, false, not, _||_}
 use mathlib.Core.List.{List, [], _∷_}
-use Prim.Native.Nat.{ℕ, suc, _+_, _≤_, _<_}
+use Prim.Native.Nat.{ℕ, suc, _+_, _-_, _≤_, _<_}
 use native.Mathlib.Omega.{arith}
 use borrow.Author.Tests.{eqb-true, eqb-false, ltb-false, not-false}
 use lib.Dec.{eqb, ltb}
@@ -19,7 +19,7 @@ use Rattle.notation.specs.declared.alphabet.Bytes.{Bytes}
 use Rattle.notation.specs.declared.alphabet.Bytes.the-variants.{After, Wrong as BytesWrong}
 use Rattle.notation.proofs.AlphabetLaws.{alphabet-read}
 use Rattle.notation.proofs.ReadLaws.{more-got}
-use Rattle.sheet.specs.Reader.{Outcome, found, refused, refuse, andThen, onCount, onAlphabet, onLetters, Section, alphabetSection, letterSection, patternBounds, textBounds, Sections, stringSections, Strings, reading}
+use Rattle.sheet.specs.Reader.{Outcome, found, refused, refuse, andThen, onCount, onAlphabet, onLetters, Section, alphabetSection, letterSection, patternBounds, textBounds, Sections, stringSections, Whole, planning, Strings, reading}
 use Rattle.sheet.specs.declared.sections.Bounds.{Bounds}
 
 module _ {A : Type 0} where
@@ -100,6 +100,36 @@ alphabet-section-found K room s w q =
       next = omega (arith, L .size, L .place);
     })
 
+-- the part of a sheet that a slice of k bytes from a place lends
+abbrev pub lent : List ℕ → ℕ → ℕ → List ℕ
+lent s from k = take (from + k - from) (drop from s)
+
+-- the alphabet as a lent part
+pub record AlphabetLent (K room : ℕ) (s : List ℕ) (from k : ℕ) : Type 0 where
+  pub within : from + k ≤ length s
+  pub size : length (lent s from k) ≡ k
+  pub some : 0 < length (lent s from k)
+  pub few : length (lent s from k) ≤ K
+  pub fits : length (lent s from k) ≤ room
+
+span : (x y : ℕ) → x + y - x ≡ y
+span x y = omega arith
+
+module _ {K room : ℕ} {s : List ℕ} {w : Section} (f : AlphabetFound K room s w) {k from : ℕ} (size : length (w .string) ≡ k) (begins : w .from ≡ from) where
+  pub lent-is : lent s from k ≡ w .string
+  lent-is = ap (λ (x : ℕ). take x (drop from s)) (span from k) ∙ ap₂ (λ (x y : ℕ). take x (drop y s)) (sym size) (sym begins) ∙ sym (f .part)
+
+  pub alphabet-lent : AlphabetLent K room s from k
+  alphabet-lent =
+      let n = ap length lent-is in
+      record {
+        within = omega (arith, f .within);
+        size = n ∙ size;
+        some = omega (arith, f .some);
+        few = omega (arith, f .few);
+        fits = omega (arith, f .fits);
+      }
+
 pub record LettersFound (A : List ℕ) (b : Bounds) (s : List ℕ) (at : ℕ) (w : Section) : Type 0 where
   pub counted : countAt at (drop at s) ≡ Number (length (w .string)) (w .from)
   pub low : b .least ≤ length (w .string)
@@ -160,29 +190,42 @@ string-sections-found M N A roomP roomT s at w h q =
     let l = ltb-false (t .next) (length s) (z .0) in
     subst (BothFound M N A roomP roomT s at) is (record { pattern = P; text = T; end = omega (arith, T .next) })
 
--- a sheet that was read: its sections
-pub record ReadFound (B K M N : ℕ) (d : Strings) (s : List ℕ) (w : Strings) : Type 0 where
+-- a whole sheet: its sections, for lists with so much room
+pub record WholeFound (B K M N roomA roomP roomT : ℕ) (s : List ℕ) (w : Whole) : Type 0 where
   pub small : length s ≤ B
-  pub alphabet : Section
-  pub strings : Sections
-  pub listed : AlphabetFound K (length (d .alphabet)) s alphabet
-  pub both : BothFound M N (alphabet .string) (length (d .pattern)) (length (d .text)) s (alphabet .next) strings
-  pub is : record { alphabet = alphabet .string; pattern = strings .pattern .string; text = strings .text .string } ≡ w
+  pub alphabet : AlphabetFound K roomA s (w .alphabet)
+  pub both : BothFound M N (w .alphabet .string) roomP roomT s (w .alphabet .next) (record { pattern = w .pattern; text = w .text })
+
+pub planning-found : (B K M N roomA roomP roomT : ℕ) (s : List ℕ) (w : Whole) → planning B K M N roomA roomP roomT s ≡ found w → WholeFound B K M N roomA roomP roomT s w
+unfolding planning
+planning-found B K M N roomA roomP roomT s w q =
+    let b = refuse-found (ltb B (length s)) 10 0 _ w q in
+    let x = then-found (alphabetSection K roomA s) _ w (b .1) in
+    let a = x .0 in
+    let A = alphabet-section-found K roomA s a (x .1) in
+    let y = then-found (stringSections M N (a .string) roomP roomT s (a .next)) _ w (x .2) in
+    let v = y .0 in
+    let is : record { alphabet = a; pattern = v .pattern; text = v .text } ≡ w = cc in
+    subst (WholeFound B K M N roomA roomP roomT s) is
+    (record {
+      small = ltb-false B (length s) (b .0);
+      alphabet = A;
+      both = string-sections-found M N (a .string) roomP roomT s (a .next) v (A .next) (y .1);
+    })
+
+-- a sheet that was read
+pub record ReadFound (B K M N : ℕ) (d : Strings) (s : List ℕ) (w : Strings) : Type 0 where
+  pub whole : Whole
+  pub sections : WholeFound B K M N (length (d .alphabet)) (length (d .pattern)) (length (d .text)) s whole
+  pub is : record { alphabet = whole .alphabet .string; pattern = whole .pattern .string; text = whole .text .string } ≡ w
 
 pub reading-found : (B K M N : ℕ) (d : Strings) (s : List ℕ) (w : Strings) → reading B K M N d s ≡ found w → ReadFound B K M N d s w
 unfolding reading
 reading-found B K M N d s w q =
-    let b = refuse-found (ltb B (length s)) 10 0 _ w q in
-    let x = then-found (alphabetSection K (length (d .alphabet)) s) _ w (b .1) in
-    let a = x .0 in
-    let A = alphabet-section-found K (length (d .alphabet)) s a (x .1) in
-    let y = then-found (stringSections M N (a .string) (length (d .pattern)) (length (d .text)) s (a .next)) _ w (x .2) in
-    let v = y .0 in
+    let x = then-found (planning B K M N (length (d .alphabet)) (length (d .pattern)) (length (d .text)) s) _ w q in
+    let v = x .0 in
     record {
-      small = ltb-false B (length s) (b .0);
-      alphabet = a;
-      strings = v;
-      listed = A;
-      both = string-sections-found M N (a .string) (length (d .pattern)) (length (d .text)) s (a .next) v (A .next) (y .1);
-      is = (let e : found (record { alphabet = a .string; pattern = v .pattern .string; text = v .text .string }) ≡ found w = y .2 in cc);
+      whole = v;
+      sections = planning-found B K M N _ _ _ s v (x .1);
+      is = (let e : found (record { alphabet = v .alphabet .string; pattern = v .pattern .string; text = v .text .string }) ≡ found w = x .2 in cc);
     }

@@ -4,11 +4,14 @@ use mathlib.Core.List.{List}
 use lib.ListN.{length}
 use Rattle.promise.specs.Promised.{Promised}
 use Rattle.hits.specs.Hits.{over}
-use Rattle.sheet.specs.Reader.{Outcome, found, refused, Section, Sections, Strings, reading}
+use Rattle.sheet.specs.Reader.{Outcome, found, refused, Section, Sections, Whole, Strings, reading}
 use Rattle.sheet.specs.declared.sections.Found.{Found}
 use Rattle.sheet.specs.declared.sections.Found.the-variants.{At, Refused as FoundRefused}
 use Rattle.sheet.specs.declared.sections.Both.{Both}
-use Rattle.sheet.specs.declared.sections.Both.the-variants.{Whole, Refused as BothRefused}
+use Rattle.sheet.specs.declared.sections.Both.the-variants.{Whole as BothWhole, Refused as BothRefused}
+use Rattle.sheet.specs.declared.plan.Lines.{Lines}
+use Rattle.sheet.specs.declared.plan.Planned.{Planned}
+use Rattle.sheet.specs.declared.plan.Planned.the-variants.{Whole as PlannedWhole, Refused as PlannedRefused}
 use Rattle.sheet.specs.declared.Answer.{Answer}
 use Rattle.sheet.specs.declared.Answer.the-variants.{Read, Refused as AnswerRefused}
 
@@ -21,7 +24,23 @@ foundOf (found w) = At (length (w .string)) (w .from) (w .next)
 abbrev pub bothOf : Outcome Sections → Both
 bothOf (refused number place) = BothRefused (record { number = number; place = place })
 bothOf (found w) =
-    Whole (record { m = length (w .pattern .string); pattern = w .pattern .from; n = length (w .text .string); text = w .text .from })
+    BothWhole (record { m = length (w .pattern .string); pattern = w .pattern .from; n = length (w .text .string); text = w .text .from })
+
+-- the three counts, and where the three lines begin
+abbrev pub linesOf : Whole → Lines
+linesOf w =
+    record {
+      k = length (w .alphabet .string);
+      alphabet = w .alphabet .from;
+      m = length (w .pattern .string);
+      pattern = w .pattern .from;
+      n = length (w .text .string);
+      text = w .text .from;
+    }
+
+abbrev pub plannedOf : Outcome Whole → Planned
+plannedOf (refused number place) = PlannedRefused (record { number = number; place = place })
+plannedOf (found w) = PlannedWhole (linesOf w)
 
 -- the refusal's number and place; or k, m and n
 abbrev pub answerOf : Outcome Strings → Answer
@@ -37,3 +56,7 @@ leftOf (found w) d =
 -- reading the sheet s into the lent lists d, which hold `after` afterwards
 abbrev pub ReadInto : ℕ → ℕ → ℕ → ℕ → List ℕ → Strings → Answer → Strings → Type 0
 ReadInto B K M N s d r after = Promised (answerOf (reading B K M N d s)) (leftOf (reading B K M N d s) d) r after
+
+-- the answer for the sheet s and the lent lists d, which are not written
+abbrev pub Measured : ℕ → ℕ → ℕ → ℕ → List ℕ → Strings → Answer → Type 0
+Measured B K M N s d r = Promised {B = Unit {0}} (answerOf (reading B K M N d s)) tt r tt

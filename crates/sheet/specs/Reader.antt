@@ -89,16 +89,28 @@ stringSections M N A roomP roomT s at =
     refuse (ltb (t .next) (length s)) 15 (t .next)
     (found (record { pattern = p; text = t }))))
 
+-- a whole sheet: its three sections
+pub record Whole : Type 0 where
+  pub alphabet : Section
+  pub pattern : Section
+  pub text : Section
+
+-- the sheet s, walked for lists with so much room. B, K, M and N are the largest sheet, k, m and n
+unfoldable pub planning : ℕ → ℕ → ℕ → ℕ → ℕ → ℕ → ℕ → List ℕ → Outcome Whole
+planning B K M N roomA roomP roomT s =
+    refuse (ltb B (length s)) 10 0
+    (andThen (alphabetSection K roomA s) (λ a.
+    andThen (stringSections M N (a .string) roomP roomT s (a .next)) (λ w.
+    found (record { alphabet = a; pattern = w .pattern; text = w .text }))))
+
 -- three strings, or three lent lists
 pub record Strings : Type 0 where
   pub alphabet : List ℕ
   pub pattern : List ℕ
   pub text : List ℕ
 
--- the sheet s, read for lists as long as those of d. B, K, M and N are the largest sheet, k, m and n
+-- the sheet s, read for lists as long as those of d: the strings of its sections
 unfoldable pub reading : ℕ → ℕ → ℕ → ℕ → Strings → List ℕ → Outcome Strings
 reading B K M N d s =
-    refuse (ltb B (length s)) 10 0
-    (andThen (alphabetSection K (length (d .alphabet)) s) (λ a.
-    andThen (stringSections M N (a .string) (length (d .pattern)) (length (d .text)) s (a .next)) (λ w.
-    found (record { alphabet = a .string; pattern = w .pattern .string; text = w .text .string }))))
+    andThen (planning B K M N (length (d .alphabet)) (length (d .pattern)) (length (d .text)) s) (λ w.
+    found (record { alphabet = w .alphabet .string; pattern = w .pattern .string; text = w .text .string }))

@@ -1,11 +1,11 @@
 // The search sheet: its reader. All is checked before anything is written.
 pub mod measure;
+pub mod plan;
 pub mod sections;
 
-use crate::sections::Both;
-use crate::sections::Found;
-use crate::sections::alphabet_section;
-use crate::sections::string_sections;
+use crate::plan::Planned;
+use crate::plan::plan;
+use decimal::bytes::put_bytes;
 use inputs::checks::Text;
 use inputs::refusal::Refusal;
 use letters::letter::Letter;
@@ -13,9 +13,6 @@ use notation::alphabet::numbers;
 use notation::lines::put_letters;
 use pattern::Pattern;
 ghost use mathlib.Core.Path.{_≡_};
-ghost use Prim.Native.Nat.{_≤_};
-ghost use lib.ListN.{length};
-ghost use Rattle.hits.specs.Hits.{over};
 ghost use Rattle.sheet.specs.Answers.{ReadInto};
 
 pub struct Sheet {
@@ -47,49 +44,25 @@ pub enum Answer {
     Refused(Refusal),
 }
 
-// Writes bytes over the front of a list.
-fn copy(bytes: &[u8], list: &mut [u8])
-    requires { ⌜ length (now bytes) ≤ length (now list) ⌝ }
-    ensures { λ _. ⌜ now (list .exit) ≡ over (now (bytes .entry)) (now (list .entry)) ⌝ }
-{
-    let mut i: usize = 0;
-    while i < bytes.len() {
-        list[i] = bytes[i];
-        i += 1;
-    }
-}
-
 // Reads a sheet into the lent lists, or refuses it and writes nothing.
 pub fn read(sheet: &[u8], alphabet: &mut [u8], pattern: &mut [u32], text: &mut [u32]) -> Answer
     ensures promise { λ r. do ⌜ ReadInto (← ⟦Sheet::MAX_BYTES⟧ .entry) (← ⟦Letter::MAX_K⟧ .entry) (← ⟦Pattern::MAX_M⟧ .entry) (← ⟦Text::MAX_N⟧ .entry) (now (sheet .entry)) (record { alphabet = now (alphabet .entry); pattern = now (pattern .entry); text = now (text .entry) }) r (record { alphabet = now (alphabet .exit); pattern = now (pattern .exit); text = now (text .exit) }) ⌝ }
 {
-    if Sheet::MAX_BYTES < sheet.len() {
-        return Answer::Refused(Refusal {
-            number: 10,
-            place: 0,
-        });
-    }
-    match alphabet_section(sheet, alphabet.len()) {
-        Found::Refused(r) => Answer::Refused(r),
-        Found::At(k, a, e) => {
-            let end = a + k;
-            let letters = &sheet[a..end];
+    match plan(sheet, alphabet.len(), pattern.len(), text.len()) {
+        Planned::Refused(r) => Answer::Refused(r),
+        Planned::Whole(w) => {
+            let from = w.alphabet;
+            let end = from + w.k as usize;
+            let letters = &sheet[from..end];
             let table = numbers(letters);
-            match string_sections(letters, &table, sheet, e, pattern.len(), text.len()) {
-                Both::Refused(r) => Answer::Refused(r),
-                Both::Whole(w) => {
-                    let p = w.pattern;
-                    let t = w.text;
-                    copy(letters, alphabet);
-                    put_letters(letters, &table, sheet, p, pattern);
-                    put_letters(letters, &table, sheet, t, text);
-                    Answer::Read(Sizes {
-                        k: k as u32,
-                        m: w.m,
-                        n: w.n,
-                    })
-                }
-            }
+            put_bytes(alphabet, 0, letters);
+            put_letters(letters, &table, sheet, w.pattern, pattern);
+            put_letters(letters, &table, sheet, w.text, text);
+            Answer::Read(Sizes {
+                k: w.k,
+                m: w.m,
+                n: w.n,
+            })
         }
     }
 }

@@ -17,7 +17,7 @@ use Rattle.products.specs.Meetings.{Met}
 use Rattle.products.specs.declared.convert.Converted.{Converted}
 use Rattle.products.specs.declared.meeting.Meeting.{Meeting}
 use Rattle.sheet.specs.Reader.{Strings}
-use Rattle.sheet.specs.Answers.{ReadInto}
+use Rattle.sheet.specs.Answers.{ReadInto, Measured}
 use Rattle.sheet.specs.declared.Answer.{Answer as ReadAnswer}
 use Rattle.writer.specs.Writer.{WriteInto}
 use Rattle.writer.specs.declared.Written.{Written}
@@ -98,6 +98,9 @@ breakwarp-products-meet L K k a b r s p q = one-answer p q
 module _ (B K M N : ℕ) (s : List ℕ) (d : Strings) where
   pub read : (r q : ReadAnswer) (left right : Strings) → ReadInto B K M N s d r left → ReadInto B K M N s d q right → (r ≡ q) × (left ≡ right)
   read r q left right x y = one-outcome x y
+
+  pub measure : (r q : ReadAnswer) → Measured B K M N s d r → Measured B K M N s d q → r ≡ q
+  measure r q x y = one-answer x y
 
   pub breakwarp-read-sheet : (z : List ℕ) (r q : ℤ) (left right : Strings) (sizes others : List ℕ) → ReadCalled B K M N s d z r left sizes → ReadCalled B K M N s d z q right others
       → (r ≡ q) × (_≡_ {A = Lent} (record { strings = left; sizes = sizes }) (record { strings = right; sizes = others }))

@@ -1,7 +1,6 @@
 -- `breakwarp_read_sheet` meets its contract: the laws of a reading answer both cases. Assumes nothing.
 use borrow.Author.Needs.{needs}
 use mathlib.Core.Path.{_∙_}
-use Prim.Native.Nat.{_-_}
 use Rattle.breakwarp.proofs.CodeLaws.{read-back}
 use Rattle.breakwarp.proofs.ReadLaws.{read-short, read-full}
 use Rattle.breakwarp.proofs.readings.breakwarp_read_sheet.Statement.{statement}
@@ -27,7 +26,7 @@ returns c =
     let m = c .before in
     let i = m .before .before .before .before in
     let a = i .before .before .before .before .before .before .args in
-    read-short 8192 32 64 65536 (a .s .now) _ (a .sizes .now) (i .if1 .taken) _ _ (m .measure .ensures) (read-back _ (c .short .ok) ∙ c .short .ensures)
+    read-short 8192 32 64 65536 (a .s .now) _ (a .sizes .now) (i .if1 .taken) _ _ (m .measure .ensures .answers) (read-back _ (c .short .ok) ∙ c .short .ensures)
 
 read-requires : tie.Need-read-requires
 read-requires c κs = search needs
