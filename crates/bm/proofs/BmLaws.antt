@@ -5,7 +5,7 @@ use mathlib.Core.List.{List, []}
 use Prim.Native.Nat.{ℕ, suc, _+_, _-_, _*_, _≤_, _<_, zero-le, max}
 use native.Mathlib.Nat.{mul-comm, mul-le-mul-left}
 use native.Mathlib.Omega.{arith}
-use borrow.Author.Tests.{leb-true, leb-false, le-leb, lt-leb, eqb-true, eqb-false, eq-eqb, ne-eqb, ltb-true, ltb-false}
+use borrow.Author.Tests.{le-leb, lt-leb, eqb-true, eqb-false, eq-eqb, ne-eqb, ltb-true, ltb-false}
 use lib.Dec.{eqb, ltb}
 use lib.ListN.{length, getD}
 use Rattle.letters.specs.Members.{keep}
@@ -13,7 +13,7 @@ use Rattle.letters.proofs.Truth.{bool-cases}
 use Rattle.hits.specs.Hits.{within, hitAt, hits}
 use Rattle.hits.specs.Turns.{Turn, Run, idle}
 use Rattle.hits.proofs.HitLaws.{hit-is, no-hit, one-from}
-use Rattle.hits.proofs.RunLaws.{Sound, run-stop, finds-all, bounded, per-start, per-start-small, per-shift-small}
+use Rattle.hits.proofs.RunLaws.{Sound, finds-all, bounded, Passing, by-start, per-start, no-start, per-start-small, per-shift-small}
 use Rattle.shifts.specs.Least.{least}
 use Rattle.shifts.specs.Shift.{fit, trials}
 use Rattle.shifts.specs.Singles.{plain}
@@ -122,34 +122,26 @@ module _ (P T : List ℕ) where
   unfolding bmTurn
   stays-in pos i l = let b = by-le P T i pos in omega arith
 
-  -- every start below the present one is settled
-  unfoldable pub sound : Sound P T (within P T) (bmTurn P T) (suc (length T)) 0
+  -- each turn settles the starts that it passes
+  pub passing : Passing P T (bmTurn P T)
   unfolding bmTurn
-  sound =
+  passing i l =
+      let g = first-ge P T i (endMet P T i) in
+      let z : by P T i ≡ suc (by P T i - 1) = omega arith in
       record {
-        left = λ i. length T + 1 - (i + length P);
-        settled = λ i. i;
-        ok = λ i. Unit {0};
-        begins = tt;
-        enough = omega arith;
-        nothing = refl;
-        fair = λ i o y.
-            let l : i + length P ≤ length T = leb-true _ _ y in
-            let g = first-ge P T i (endMet P T i) in
-            let z : by P T i ≡ suc (by P T i - 1) = omega arith in
-            record {
-              falls = omega arith;
-              still = tt;
-              gap = suc (by P T i - 1);
-              moved = ap (λ (x : ℕ). i + x) z;
-              right =
-                  ap (λ (b : Bool). keep b i []) (end-hit P T i l)
-                  ∙ sym
-                  (one-from P T (by P T i - 1) i
-                  (λ j a b. let e : i + (j - i) ≡ j = omega arith in rw e at (by-none P T i (j - i) (omega arith) (omega arith))));
-            };
-        ends = λ i o n. leb-false _ _ n;
+        falls = omega arith;
+        still = tt;
+        gap = suc (by P T i - 1);
+        moved = ap (λ (x : ℕ). i + x) z;
+        right =
+            ap (λ (b : Bool). keep b i []) (end-hit P T i l)
+            ∙ sym
+            (one-from P T (by P T i - 1) i
+            (λ j a b. let e : i + (j - i) ≡ j = omega arith in rw e at (by-none P T i (j - i) (omega arith) (omega arith))));
       }
+
+  unfoldable pub sound : Sound P T (within P T) (bmTurn P T) (suc (length T)) 0
+  sound = by-start passing
 
   -- the rule's run finds exactly the hits
   pub bm-finds : bmRun P T .found ≡ hits P T
@@ -158,13 +150,8 @@ module _ (P T : List ℕ) where
 
   -- scan tests: at most m (n - m + 1)
   pub bm-scan : bmRun P T .scan ≤ length P * (length T + 1 - length P)
-  unfolding bmRun bmTurn sound
-  bm-scan =
-      per-start sound (λ (r : Run). r .scan) (λ (t : Turn ℕ). t .scan) refl (λ t r. refl) (λ (i : ℕ). i) (length P)
-      (λ i y. leb-true _ _ y)
-      (λ i o y. goes-on i)
-      (λ i o y. backTests-le P T i (length P))
-      refl
+  unfolding bmRun bmTurn
+  bm-scan = per-start passing (λ (r : Run). r .scan) (λ (t : Turn ℕ). t .scan) refl (λ t r. refl) (length P) (λ i. backTests-le P T i (length P))
 
   tests-cut : (i g : ℕ) → firstTests P T i g ≤ trials P T i (length P - g) (length P) 1 (length P - 1)
   unfolding firstTests
@@ -185,7 +172,7 @@ module _ (P T : List ℕ) where
 
   -- shift tests: at most (n - m)(m - 1); so none where the pattern is longer than the text
   pub bm-shift : 0 < length P → bmRun P T .shift ≤ (length T - length P) * (length P - 1)
-  unfolding bmRun sound
+  unfolding bmRun sound by-start
   bm-shift pos =
       let h = bounded sound (λ (r : Run). r .shift) (λ (t : Turn ℕ). t .shift) refl (λ t r. refl) room (λ i o y. pays pos i) in
       let z : length T - length P - 0 ≡ length T - length P = omega arith in
@@ -194,7 +181,7 @@ module _ (P T : List ℕ) where
   -- a pattern longer than the text: no turn, so no hit and no count
   pub bm-idle : length T < length P → bmRun P T ≡ idle
   unfolding bmRun
-  bm-idle l = run-stop (within P T) (bmTurn P T) (suc (length T)) 0 (lt-leb (0 + length P) (length T) (omega arith))
+  bm-idle l = no-start P T (bmTurn P T) (suc (length T)) l
 
   -- within limits on m and n the counts have a limit
   module _ (M N : ℕ) (h : length P ≤ M) (k : length T ≤ N) where

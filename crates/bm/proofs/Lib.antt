@@ -1,4 +1,3 @@
 pub mod BmLaws
-pub mod ScanLaws
 pub mod StepLaws
 pub mod Examples

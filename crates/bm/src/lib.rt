@@ -8,12 +8,11 @@ use inputs::checks::checked;
 use inputs::refusal::Answer;
 use inputs::refusal::Check;
 use letters::letter::Letter;
-use letters::letter::lone;
-use letters::letter::meet;
 use pattern::Pattern;
 use pattern::after_r;
 use pattern::tables::Shifts;
 use shifts::Trials;
+use shifts::back::scan_back;
 use shifts::less;
 use shifts::smaller;
 use shifts::try_shifts;
@@ -30,37 +29,11 @@ ghost use Rattle.pattern.specs.Tables.{LastTable, EndShifts};
 ghost use Rattle.inputs.specs.Answers.{Searched, scanOf, shiftOf};
 ghost use Rattle.bm.specs.Bm.{endMet, firstShift, firstTests, failShift, bmTurn, bmRun, turnOf};
 
-struct Back {
-    left: usize,
-    sure: bool,
-}
-
 struct Turned {
     hit: bool,
     next: usize,
     scan: u64,
     shift: u64,
-}
-
-// Tests from the last letter leftwards: how many are left when one does not meet; and whether the pattern, as `whole` tells, and the text letters that meet are all single. Once they are not, it is not asked again.
-fn scan_from_end(p: &[u32], t: &[u32], whole: bool, i: usize) -> Back
-    requires { ⌜ i + length (now p) ≤ length (now t) ⌝ }
-    ensures { λ r. ⌜ (r .left ≤ length (now (p .entry))) × (length (now (p .entry)) - r .left ≡ endMet (now (p .entry)) (now (t .entry)) i) × (r .sure ≡ (whole && plain (now (t .entry)) (i + r .left) (length (now (p .entry)) - r .left))) ⌝ }
-{
-    let mut k = p.len();
-    let mut sure = whole;
-    while 0 < k {
-        let j = k - 1;
-        let c = t[i + j];
-        if !meet(p[j], c) {
-            return Back { left: k, sure };
-        }
-        k = j;
-        if sure {
-            sure = lone(c);
-        }
-    }
-    Back { left: k, sure }
 }
 
 fn larger(a: usize, b: usize) -> usize
@@ -101,7 +74,7 @@ fn step(p: &[u32], t: &[u32], by: &[u32; 65], lasts: &[u32; 32], whole: bool, i:
     ensures { λ r. ⌜ turnOf i r ≡ bmTurn (now (p .entry)) (now (t .entry)) i ⌝ }
 {
     let m = p.len();
-    let b = scan_from_end(p, t, whole, i);
+    let b = scan_back(p, t, whole, i, m);
     let left = b.left;
     if left == m {
         return Turned {

@@ -5,9 +5,10 @@ use mathlib.Core.List.{List, _++_}
 use Prim.Native.Nat.{ℕ, zero, suc, _+_, _-_, _*_, _≤_, _<_}
 use native.Mathlib.Nat.{mul-le-mul-left, mul-le-mul-right}
 use native.Mathlib.Omega.{arith}
+use borrow.Author.Tests.{leb-true, leb-false, lt-leb}
 use lib.ListN.{length}
 use Rattle.letters.proofs.Truth.{bool-cases, both-ways}
-use Rattle.hits.specs.Hits.{hitsFrom, hits}
+use Rattle.hits.specs.Hits.{within, hitsFrom, hits}
 use Rattle.hits.specs.Turns.{Turn, Run, idle, after, run}
 use Rattle.hits.proofs.HitLaws.{rest, rest-split, rest-past, rest-all, length-hits}
 
@@ -98,20 +99,41 @@ module _ {S : Type 0} {P T : List ℕ} {more : S → Bool} {turn : S → Turn S}
     pub bounded : (φ : S → ℕ) → ((s : S) → e .ok s → more s ≡ true → own (turn s) + φ (turn s .next) ≤ φ s) → cost (run more turn F s₀) ≤ φ s₀
     bounded φ pays = paid φ pays F s₀ (e .begins)
 
-    -- at most c a turn, and at least one start a turn: c for each start
-    pub per-start : (at : S → ℕ) (c : ℕ) → ((s : S) → more s ≡ true → at s + length P ≤ length T)
-        → ((s : S) → e .ok s → more s ≡ true → at s < at (turn s .next)) → ((s : S) → e .ok s → more s ≡ true → own (turn s) ≤ c)
-        → at s₀ ≡ 0 → cost (run more turn F s₀) ≤ c * (length T + 1 - length P)
-    per-start at c within goes small z =
-        let h = bounded (λ (s : S). c * (length T + 1 - (at s + length P)))
-        (λ s o y.
-        let w = within s y in
-        let g = goes s o y in
-        let k : suc (length T + 1 - (at (turn s .next) + length P)) ≤ length T + 1 - (at s + length P) = omega arith in
-        omega (arith, small s o y, mul-le-mul-left c k))
+-- an engine whose state is the start alone: each turn moves on and finds the hits that it passes
+abbrev pub Passing : List ℕ → List ℕ → (ℕ → Turn ℕ) → Type 0
+Passing P T turn = (i : ℕ) → i + length P ≤ length T → Fair P T (λ j. length T + 1 - (j + length P)) (λ j. j) (λ j. Unit {0}) i (turn i)
+
+module _ {P T : List ℕ} {turn : ℕ → Turn ℕ} (passing : Passing P T turn) where
+  -- every start below the present one is settled
+  unfoldable pub by-start : Sound P T (within P T) turn (suc (length T)) 0
+  by-start =
+      record {
+        left = λ i. length T + 1 - (i + length P);
+        settled = λ i. i;
+        ok = λ i. Unit {0};
+        begins = tt;
+        enough = omega arith;
+        nothing = refl;
+        fair = λ i o y. passing i (leb-true _ _ y);
+        ends = λ i o n. leb-false _ _ n;
+      }
+
+  -- work of at most c a turn: c for each start
+  module _ (cost : Run → ℕ) (own : Turn ℕ → ℕ) (none : cost idle ≡ 0) (adds : (t : Turn ℕ) (r : Run) → cost (after t r) ≡ own t + cost r) where
+    pub per-start : (c : ℕ) → ((i : ℕ) → own (turn i) ≤ c) → cost (run (within P T) turn (suc (length T)) 0) ≤ c * (length T + 1 - length P)
+    unfolding by-start
+    per-start c small =
+        let h = bounded by-start cost own none adds (λ (i : ℕ). c * (length T + 1 - (i + length P)))
+        (λ i o y.
+        let f = passing i (leb-true _ _ y) .falls in
+        omega (arith, small i, mul-le-mul-left c f))
         in
-        let k : length T + 1 - (at s₀ + length P) ≤ length T + 1 - length P = omega arith in
+        let k : length T + 1 - (0 + length P) ≤ length T + 1 - length P = omega arith in
         omega (arith, h, mul-le-mul-left c k)
+
+-- a pattern longer than the text: no turn, so no hit and no count
+pub no-start : (P T : List ℕ) (turn : ℕ → Turn ℕ) (f : ℕ) → length T < length P → run (within P T) turn f 0 ≡ idle
+no-start P T turn f l = run-stop (within P T) turn f 0 (lt-leb (0 + length P) (length T) (omega arith))
 
 -- such a count is small within the limits
 pub per-start-small : (M N m n x : ℕ) → x ≤ m * (n + 1 - m) → m ≤ M → n ≤ N → x ≤ M * (N + 1)

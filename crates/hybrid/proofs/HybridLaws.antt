@@ -6,7 +6,7 @@ use mathlib.Core.Logic.{⊎-elim}
 use Prim.Native.Nat.{ℕ, suc, _+_, _-_, _*_, _≤_, _<_}
 use native.Mathlib.Nat.{eq-or-lt-of-le}
 use native.Mathlib.Omega.{arith}
-use borrow.Author.Tests.{leb-true, leb-false, lt-leb}
+use borrow.Author.Tests.{leb-true, leb-false}
 use lib.Dec.{leb}
 use lib.ListN.{length, getD}
 use Rattle.letters.specs.Letters.{meets}
@@ -14,7 +14,7 @@ use Rattle.letters.proofs.Truth.{bool-cases}
 use Rattle.hits.specs.Hits.{within, hits, hitsFrom}
 use Rattle.hits.specs.Turns.{Turn, Run, idle}
 use Rattle.hits.proofs.HitLaws.{no-hit, none-from}
-use Rattle.hits.proofs.RunLaws.{Sound, Fair, run-stop, finds-all, bounded, per-start}
+use Rattle.hits.proofs.RunLaws.{Sound, finds-all, bounded, Passing, by-start, per-start, no-start}
 use Rattle.word.proofs.WordLaws.{zero-means}
 use Rattle.hybrid.specs.Stretches.{stretch}
 use Rattle.sunday.specs.Sunday.{nextStart}
@@ -54,8 +54,9 @@ module _ (P T : List ℕ) where
         let w = steps-fine a l .ahead in
         omega (arith, some-step P T (length T - a) a 0 (omega arith))
 
-    pub turn-fair : (a : ℕ) → a + length P ≤ length T → Fair P T (λ (i : ℕ). length T + 1 - (i + length P)) (λ (i : ℕ). i) (λ (i : ℕ). Unit {0}) a (hybridTurn P T a)
-    turn-fair a l =
+    -- each turn settles the starts that it passes
+    pub passing : Passing P T (hybridTurn P T)
+    passing a l =
         bool-cases (last-meets a)
         (λ y. let w = steps-fine a l in
         let k = steps-ahead a l in
@@ -78,19 +79,8 @@ module _ (P T : List ℕ) where
           right = sym (shift-right a l p n);
         }))
 
-    -- every start below the present one is settled
     unfoldable pub sound : Sound P T (within P T) (hybridTurn P T) (suc (length T)) 0
-    sound =
-        record {
-          left = λ i. length T + 1 - (i + length P);
-          settled = λ i. i;
-          ok = λ i. Unit {0};
-          begins = tt;
-          enough = omega arith;
-          nothing = refl;
-          fair = λ i o y. turn-fair i (leb-true _ _ y);
-          ends = λ i o n. leb-false _ _ n;
-        }
+    sound = by-start passing
 
     -- the rule's run finds exactly the hits
     pub hybrid-finds : hybridRun P T .found ≡ hits P T
@@ -122,19 +112,14 @@ module _ (P T : List ℕ) where
 
     -- scan tests: at most n - m + 1
     pub hybrid-scan : hybridRun P T .scan ≤ length T + 1 - length P
-    unfolding hybridRun sound
+    unfolding hybridRun
     hybrid-scan =
-        let h = per-start sound (λ (r : Run). r .scan) (λ (t : Turn ℕ). t .scan) refl (λ t r. refl) (λ (i : ℕ). i) 1
-        (λ i y. leb-true _ _ y)
-        (λ i o y. goes-on i (leb-true _ _ y))
-        (λ i o y. omega (arith, one-test i))
-        refl
-        in
+        let h = per-start passing (λ (r : Run). r .scan) (λ (t : Turn ℕ). t .scan) refl (λ t r. refl) 1 (λ i. omega (arith, one-test i)) in
         omega arith
 
     -- word steps: at most n
     pub hybrid-steps : hybridRun P T .steps ≤ length T
-    unfolding hybridRun sound
+    unfolding hybridRun sound by-start
     hybrid-steps =
         let h = bounded sound (λ (r : Run). r .steps) (λ (t : Turn ℕ). t .steps) refl (λ t r. refl) (λ (i : ℕ). length T - i) (λ i o y. turn-pays i (leb-true _ _ y)) in
         omega arith
@@ -142,7 +127,7 @@ module _ (P T : List ℕ) where
   -- no work where the pattern is longer than the text
   pub hybrid-idle : length T < length P → hybridRun P T ≡ idle
   unfolding hybridRun
-  hybrid-idle l = run-stop (within P T) (hybridTurn P T) (suc (length T)) 0 (lt-leb (0 + length P) (length T) (omega arith))
+  hybrid-idle l = no-start P T (hybridTurn P T) (suc (length T)) l
 
   -- both together: at most 2 n - m + 1
   pub hybrid-work : 0 < length P → hybridRun P T .scan + hybridRun P T .steps ≤ 2 * length T + 1 - length P

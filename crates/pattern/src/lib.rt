@@ -13,7 +13,6 @@ ghost use Rattle.pattern.specs.Last.{afterR};
 ghost use Rattle.pattern.specs.Tables.{LastTable, Sure};
 ghost use Rattle.pattern.specs.Visits.{Visited};
 
-pub mod back;
 pub mod masks;
 pub mod tables;
 

@@ -1,6 +1,6 @@
 // The pattern's own shifts: for each stretch of it the least shift by which it meets itself there. They are found from how far the pattern, moved by s, meets itself, so no border of a border is taken.
-use crate::back::scan_back;
 use hits::scan::reach_to;
+use shifts::back::scan_back;
 use shifts::wide;
 ghost use mathlib.Core.Path.{_≡_};
 ghost use Prim.Native.Nat.{ℕ, _+_, _-_, _≤_, _<_};
@@ -57,7 +57,7 @@ fn end_far(p: &[u32], s: usize) -> usize
     ensures { λ r. ⌜ (r ≡ endFar (now (p .entry)) s) × (r ≤ length (now (p .entry))) ⌝ }
 {
     let rest = p.len() - s;
-    let b = scan_back(p, p, s, rest);
+    let b = scan_back(p, p, false, s, rest);
     let met = rest - b.left;
     if met == rest { p.len() } else { met }
 }

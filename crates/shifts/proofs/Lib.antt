@@ -2,4 +2,5 @@ pub mod SpanLaws
 pub mod LeastLaws
 pub mod SingleLaws
 pub mod BackLaws
+pub mod SureLaws
 pub mod ShiftLaws

@@ -1,4 +1,6 @@
 // What KMP and BM share: the scan of a stretch, and the shift found by trying.
+pub mod back;
+
 use hits::scan::reach_to;
 use hits::work::count;
 ghost use mathlib.Core.Path.{_≡_};

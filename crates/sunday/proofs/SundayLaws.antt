@@ -4,16 +4,16 @@ use mathlib.Core.Bool.{false}
 use mathlib.Core.List.{List, []}
 use Prim.Native.Nat.{ℕ, suc, _+_, _-_, _*_, _≤_, _<_}
 use native.Mathlib.Omega.{arith}
-use borrow.Author.Tests.{leb-true, leb-false, eq-eqb, ne-eqb, eqb-true, eqb-false}
+use borrow.Author.Tests.{eq-eqb, ne-eqb, eqb-true, eqb-false}
 use lib.Dec.{eqb}
 use lib.ListN.{length, getD}
 use Rattle.letters.specs.Members.{keep}
 use Rattle.letters.proofs.Truth.{bool-cases}
 use Rattle.hits.specs.Hits.{within, hitAt, hits}
-use Rattle.hits.specs.Turns.{Turn, Run}
+use Rattle.hits.specs.Turns.{Turn, Run, idle}
 use Rattle.hits.proofs.HitLaws.{no-hit, one-from}
 use Rattle.hits.proofs.ScanLaws.{scan-hit, tests-le}
-use Rattle.hits.proofs.RunLaws.{Sound, finds-all, per-start, per-start-small}
+use Rattle.hits.proofs.RunLaws.{Sound, finds-all, Passing, by-start, per-start, no-start, per-start-small}
 use Rattle.pattern.specs.Last.{afterR}
 use Rattle.pattern.proofs.LastLaws.{last-above, r-le}
 use Rattle.sunday.specs.Sunday.{nextStart, sundayTurn, sundayRun}
@@ -59,29 +59,21 @@ module _ (P T : List ℕ) where
           (λ y. absurd (let z = next-end (eqb-true _ _ y) in omega arith))
           (λ n. let z = next-on (eqb-false _ _ n) in passed j u (let w = r-le P (getD T (i + length P) 0) in omega arith))
 
-  -- every start below the present one is settled
-  unfoldable pub sound : Sound P T (within P T) (sundayTurn P T) (suc (length T)) 0
+  -- each turn settles the starts that it passes
+  pub passing : Passing P T (sundayTurn P T)
   unfolding sundayTurn
-  sound =
+  passing i l =
+      let g = next-gt i l in
       record {
-        left = λ i. length T + 1 - (i + length P);
-        settled = λ i. i;
-        ok = λ i. Unit {0};
-        begins = tt;
-        enough = omega arith;
-        nothing = refl;
-        fair = λ i o y.
-            let l : i + length P ≤ length T = leb-true _ _ y in
-            let g = next-gt i l in
-            record {
-              falls = omega arith;
-              still = tt;
-              gap = suc (nextStart P T i - suc i);
-              moved = omega arith;
-              right = ap (λ b. keep b i []) (scan-hit P T i l) ∙ sym (one-from P T (nextStart P T i - suc i) i (λ j u v. next-passes i l j u (omega arith)));
-            };
-        ends = λ i o n. leb-false _ _ n;
+        falls = omega arith;
+        still = tt;
+        gap = suc (nextStart P T i - suc i);
+        moved = omega arith;
+        right = ap (λ b. keep b i []) (scan-hit P T i l) ∙ sym (one-from P T (nextStart P T i - suc i) i (λ j u v. next-passes i l j u (omega arith)));
       }
+
+  unfoldable pub sound : Sound P T (within P T) (sundayTurn P T) (suc (length T)) 0
+  sound = by-start passing
 
   -- the rule's run finds exactly the hits
   pub sunday-finds : sundayRun P T .found ≡ hits P T
@@ -90,13 +82,13 @@ module _ (P T : List ℕ) where
 
   -- scan tests: at most m (n - m + 1)
   pub sunday-scan : sundayRun P T .scan ≤ length P * (length T + 1 - length P)
-  unfolding sundayRun sundayTurn sound
-  sunday-scan =
-      per-start sound (λ (r : Run). r .scan) (λ (t : Turn ℕ). t .scan) refl (λ t r. refl) (λ (i : ℕ). i) (length P)
-      (λ i y. leb-true _ _ y)
-      (λ i o y. next-gt i (leb-true _ _ y))
-      (λ i o y. tests-le P T i 0 (length P))
-      refl
+  unfolding sundayRun sundayTurn
+  sunday-scan = per-start passing (λ (r : Run). r .scan) (λ (t : Turn ℕ). t .scan) refl (λ t r. refl) (length P) (λ i. tests-le P T i 0 (length P))
+
+  -- a pattern longer than the text: no turn, and no count
+  pub sunday-idle : length T < length P → sundayRun P T ≡ idle
+  unfolding sundayRun
+  sunday-idle l = no-start P T (sundayTurn P T) (suc (length T)) l
 
   -- within the limits it fits a word
   pub sunday-small : length P ≤ 64 → length T ≤ 65536 → sundayRun P T .scan ≤ 64 * 65537

@@ -11,8 +11,8 @@ use Rattle.bm.proofs.StepLaws.{turn-none, turn-hit, turn-fail, shifts-l
 use Rattle.bm.proofs.step.Statement.{statement}
 use Rattle.bm.proofs.step.Tie as tie
 
-scan-from-end-requires : tie.Need-scan-from-end-requires
-scan-from-end-requires c κs = search needs
+scan-back-requires : tie.Need-scan-back-requires
+scan-back-requires c κs = search needs
 
 sub-fail-shift : tie.Need-sub-fail-shift
 sub-fail-shift c = search needs
@@ -32,8 +32,8 @@ returns c =
     let k = c .before .before in
     let s = k .before .before .before in
     let a = s .args in
-    let e = k .scan-from-end .ensures in
-    turn-none (a .p .now) (a .t .now) (a .i) (k .scan-from-end .result .left) (s .pre .0) (e .0) (e .1) (c .before .if1 .taken) _
+    let e = k .scan-back .ensures in
+    turn-none (a .p .now) (a .t .now) (a .i) (k .scan-back .result .left) (s .pre .0) (e .0) (e .1) (c .before .if1 .taken) _
     (c .fail-shift .ensures (a .p .now) (s .pre .4))
 
 first-shift-requires : tie.Need-first-shift-requires
@@ -41,8 +41,8 @@ first-shift-requires c κs =
     let k = c .before in
     let s = k .before .before .before in
     let a = s .args in
-    let left = k .scan-from-end .result .left in
-    let e = k .scan-from-end .ensures in
+    let left = k .scan-back .result .left in
+    let e = k .scan-back .ensures in
     (s .pre .0, s .pre .1, s .pre .2, s .pre .3, e .0, e .1, e .2 ∙ ap (λ (b : Bool). b && plain (a .t .now) (a .i + left) (length (a .p .now) - left)) (s .pre .5))
 
 add-t16 : tie.Need-add-t16
@@ -51,7 +51,7 @@ add-t16 c =
     let k = f .before .before in
     let a = k .before .before .before .args in
     let P = a .p .now in
-    omega (arith, f .first-shift .ensures .0, first-le P (a .t .now) (a .i) (length P - k .scan-from-end .result .left))
+    omega (arith, f .first-shift .ensures .0, first-le P (a .t .now) (a .i) (length P - k .scan-back .result .left))
 
 returns-2 : tie.Need-returns-2
 returns-2 c =
@@ -59,9 +59,9 @@ returns-2 c =
     let k = f .before .before in
     let s = k .before .before .before in
     let a = s .args in
-    let e = k .scan-from-end .ensures in
+    let e = k .scan-back .ensures in
     let w = f .first-shift .ensures in
-    turn-hit (a .p .now) (a .t .now) (a .i) (k .scan-from-end .result .left) (s .pre .0) (e .0) (e .1) (c .before .if2 .taken) _ _ (w .0) (w .1)
+    turn-hit (a .p .now) (a .t .now) (a .i) (k .scan-back .result .left) (s .pre .0) (e .0) (e .1) (c .before .if2 .taken) _ _ (w .0) (w .1)
 
 sub-fail-shift-2 : tie.Need-sub-fail-shift-2
 sub-fail-shift-2 c = search needs
@@ -80,8 +80,8 @@ add-t19 c =
     let s = k .before .before .before in
     let a = s .args in
     let P = a .p .now in
-    let e = k .scan-from-end .ensures in
-    let w = shifts-le P (a .t .now) (a .i) (k .scan-from-end .result .left) (s .pre .0) (e .0) (e .1) _ _ (f .first-shift .ensures .0) (b .fail-shift2 .ensures P (s .pre .4)) in
+    let e = k .scan-back .ensures in
+    let w = shifts-le P (a .t .now) (a .i) (k .scan-back .result .left) (s .pre .0) (e .0) (e .1) _ _ (f .first-shift .ensures .0) (b .fail-shift2 .ensures P (s .pre .4)) in
     let r = max-le (c .larger .result) _ _ (length P) (c .larger .ensures) (omega arith) (omega arith) in
     omega arith
 
@@ -98,10 +98,10 @@ returns-3 c =
     let k = f .before .before in
     let s = k .before .before .before in
     let a = s .args in
-    let e = k .scan-from-end .ensures in
+    let e = k .scan-back .ensures in
     let w = f .first-shift .ensures in
     rw (c .larger .ensures)
-    (turn-fail (a .p .now) (a .t .now) (a .i) (k .scan-from-end .result .left) (s .pre .0) (e .0) (e .1) (omega arith) _ _ _ (w .0)
+    (turn-fail (a .p .now) (a .t .now) (a .i) (k .scan-back .result .left) (s .pre .0) (e .0) (e .1) (omega arith) _ _ _ (w .0)
     (b .fail-shift2 .ensures (a .p .now) (s .pre .4))
     (w .1))
 
@@ -109,7 +109,7 @@ pub step-spec : {M : Type 1} → statement M
 step-spec =
     tie.close
     (tie.spec
-    scan-from-end-requires
+    scan-back-requires
     sub-fail-shift
     fail-shift-requires
     add-t15

@@ -1,4 +1,4 @@
--- Whether a pattern and the text letters that its scan from the end has passed are all single, letter by letter. Assumes nothing.
+-- Whether a pattern and the text letters that a scan right to left has passed are all single, letter by letter. Assumes nothing.
 use mathlib.Core.Path.{_≡_, refl, sym, ap, _∙_}
 use mathlib.Core.Bool.{Bool, true, false, _&&_, and-false}
 use mathlib.Core.List.{List}

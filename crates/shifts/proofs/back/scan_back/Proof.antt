@@ -1,4 +1,4 @@
--- `bm::scan_from_end` meets its contract: what was passed meets, and the letter that stops it does not. Assumes nothing.
+-- `shifts::back::scan_back` meets its contract: what was passed meets, and the letter that stops it does not. Assumes nothing.
 use Prim.Native.Nat.{_+_, _-_, _≤_}
 use mathlib.Core.Path.{_≡_, sym, ap, _∙_}
 use mathlib.Core.Bool.{_&&_}
@@ -6,24 +6,23 @@ use native.Mathlib.Omega.{arith}
 use borrow.Author.Needs.{needs}
 use borrow.Author.Tests.{not-true, not-false}
 use lib.ListN.{length}
 use Rattle.shifts.specs.Back.{back}
 use Rattle.shifts.specs.Singles.{plain}
 use Rattle.shifts.proofs.BackLaws.{back-down, back-end, back-none}
-use Rattle.bm.proofs.ScanLaws.{sure-start, sure-on, sure-off}
-use Rattle.bm.proofs.scan_from_end.Statement.{statement}
-use Rattle.bm.proofs.scan_from_end.Tie as tie
+use Rattle.shifts.proofs.SureLaws.{sure-start, sure-on, sure-off}
+use Rattle.shifts.proofs.back.scan_back.Statement.{statement}
+use Rattle.shifts.proofs.back.scan_back.Tie as tie
 
 abbrev Inv-loop : tie.InvT-loop
-Inv-loop p t whole i k₀ sure₀ k sure =
-    (k ≤ length p) × (back p t i (length p) ≡ length p - k + back p t i k) × (sure ≡ (whole && plain t (i + k) (length p - k)))
+Inv-loop p t whole i e k₀ sure₀ k sure = (k ≤ e) × (back p t i e ≡ e - k + back p t i k) × (sure ≡ (whole && plain t (i + k) (e - k)))
 
 abbrev μ-loop : tie.MeasureT-loop
-μ-loop p t whole i k₀ sure₀ k sure = k
+μ-loop p t whole i e k₀ sure₀ k sure = k
 
 loop-holds : tie.Need-loop-holds Inv-loop μ-loop
 loop-holds c =
     let a = c .before .before .args in
-    (omega arith, omega arith, sure-start (a .whole) (a .t .now) (a .i) (length (a .p .now)))
+    (omega arith, omega arith, sure-start (a .whole) (a .t .now) (a .i) (a .e))
 
 sub-j : tie.Need-sub-j Inv-loop μ-loop
 sub-j c = search needs
@@ -63,7 +62,7 @@ loop-less c = search needs
 passed : (q : tie.Else1 Inv-loop μ-loop) →
     let l = q .before .before .before .before .before in
     let a = l .before .before .before .args in
-    back (a .p .now) (a .t .now) (a .i) (length (a .p .now)) ≡ length (a .p .now) - (l .loop .k - 1) + back (a .p .now) (a .t .now) (a .i) (l .loop .k - 1)
+    back (a .p .now) (a .t .now) (a .i) (a .e) ≡ a .e - (l .loop .k - 1) + back (a .p .now) (a .t .now) (a .i) (l .loop .k - 1)
 passed q =
     let l = q .before .before .before .before .before in
     let a = l .before .before .before .args in
@@ -77,7 +76,7 @@ loop-again c =
     let a = l .before .before .before .args in (
       omega arith,
       passed q,
-      c .lone .ensures ∙ sure-on (a .whole) (a .t .now) (a .i) (length (a .p .now)) (l .loop .k) (omega arith) (omega arith) (sym (l .loop .inv .2) ∙ c .before .if2 .taken),
+      c .lone .ensures ∙ sure-on (a .whole) (a .t .now) (a .i) (a .e) (l .loop .k) (omega arith) (omega arith) (sym (l .loop .inv .2) ∙ c .before .if2 .taken),
     )
 
 loop-less-2 : tie.Need-loop-less-2 Inv-loop μ-loop
@@ -90,7 +89,7 @@ loop-again-2 c =
     let a = l .before .before .before .args in (
       omega arith,
       passed q,
-      c .if2 .left ∙ sure-off (a .whole) (a .t .now) (a .i) (length (a .p .now)) (l .loop .k) (omega arith) (omega arith) (sym (l .loop .inv .2) ∙ c .if2 .left),
+      c .if2 .left ∙ sure-off (a .whole) (a .t .now) (a .i) (a .e) (l .loop .k) (omega arith) (omega arith) (sym (l .loop .inv .2) ∙ c .if2 .left),
     )
 
 returns-2 : tie.Need-returns-2 Inv-loop μ-loop
@@ -101,8 +100,8 @@ returns-2 c =
     let b = ap (back (a .p .now) (a .t .now) (a .i)) z ∙ back-none (a .p .now) (a .t .now) (a .i) in
     (omega arith, omega (arith, l .loop .inv .1), l .loop .inv .2)
 
-pub scan-from-end-spec : {M : Type 1} → statement M
-scan-from-end-spec =
+pub scan-back-spec : {M : Type 1} → statement M
+scan-back-spec =
     tie.close
     (tie.spec
     Inv-loop
