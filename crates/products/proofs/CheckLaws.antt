@@ -19,7 +19,7 @@ use Rattle.inputs.specs.declared.refusal.Check.the-variants.{Passed, Refused}
 use Rattle.inputs.proofs.BadLaws.{some-bad, none-bad, good-small}
 use Rattle.inputs.proofs.CheckLaws.{passed-by, passed-on}
 use Rattle.products.specs.Primes.{isProduct}
-use Rattle.products.specs.Conversions.{firstOther, alphabetThen, verdict, toVerdict, fromVerdict}
+use Rattle.products.specs.Conversions.{firstOther, alphabetThen, sizesThen, verdict, toVerdict, fromVerdict}
 use Rattle.products.specs.Meetings.{pairVerdict}
 
 -- a check with others after it refuses what it refuses by itself, or what they refuse
@@ -57,50 +57,65 @@ module _ (L K k : ℕ) where
   alphabet-alone rest e =
       rw (passed-by (eqb k 0 || ltb L k) 1 0 (refuse (ltb K k) 6 0 rest) e, passed-by (ltb K k) 6 0 rest (passed-on (eqb k 0 || ltb L k) 1 0 (refuse (ltb K k) 6 0 rest) e))
 
--- ---- the checks of a conversion
-module _ (L K N k number place n room : ℕ) where
-  pub verdict-alphabet : (r : Refusal) → alphabetThen L K k Passed ≡ Refused r → verdict L K N k number place n room ≡ Refused r
-  unfolding verdict
-  verdict-alphabet r e = alphabet-refused L K k _ r e
+-- ---- checks 1, 6 and 3
+module _ (L K N k n : ℕ) where
+  pub sizes-alphabet : (rest : Check) (r : Refusal) → alphabetThen L K k Passed ≡ Refused r → sizesThen L K N k n rest ≡ Refused r
+  unfolding sizesThen
+  sizes-alphabet rest r e = alphabet-refused L K k _ r e
 
-  module _ (a : alphabetThen L K k Passed ≡ Passed) where
-    pub verdict-long : N < n → verdict L K N k number place n room ≡ Refused (record { number = 3; place = 0 })
-    unfolding verdict refuse
-    verdict-long l = alphabet-passed L K k _ a ∙ simp (lt-ltb N n l)
+  pub sizes-long : (rest : Check) → alphabetThen L K k Passed ≡ Passed → N < n → sizesThen L K N k n rest ≡ Refused (record { number = 3; place = 0 })
+  unfolding sizesThen refuse
+  sizes-long rest a l = alphabet-passed L K k _ a ∙ simp (lt-ltb N n l)
 
-    module _ (short : n ≤ N) where
-      pub verdict-element : ltb place n ≡ true → verdict L K N k number place n room ≡ Refused (record { number = number; place = place })
-      unfolding verdict refuse
-      verdict-element t = alphabet-passed L K k _ a ∙ simp (le-ltb N n short, t)
+  pub sizes-short : (rest : Check) → alphabetThen L K k Passed ≡ Passed → n ≤ N → sizesThen L K N k n rest ≡ rest
+  unfolding sizesThen refuse
+  sizes-short rest a l = alphabet-passed L K k _ a ∙ simp (le-ltb N n l)
 
-      pub verdict-room : ltb place n ≡ false → room < n → verdict L K N k number place n room ≡ Refused (record { number = 8; place = 0 })
-      unfolding verdict refuse
-      verdict-room t l = alphabet-passed L K k _ a ∙ simp (le-ltb N n short, t, lt-ltb room n l)
-
-      pub verdict-passed : ltb place n ≡ false → n ≤ room → verdict L K N k number place n room ≡ Passed
-      unfolding verdict refuse
-      verdict-passed t l = alphabet-passed L K k _ a ∙ simp (le-ltb N n short, t, le-ltb room n l)
-
-  -- what an accepted conversion may rely on
-  pub record Accepted : Type 0 where
+  -- an accepted one
+  pub record Sized : Type 0 where
     pub alphabet : alphabetThen L K k Passed ≡ Passed
     pub fits : k ≤ K
     pub short : n ≤ N
+
+  pub sizes-on : (rest : Check) → sizesThen L K N k n rest ≡ Passed → Sized × (rest ≡ Passed)
+  unfolding sizesThen
+  sizes-on rest e =
+      let e3 = alphabet-on L K k _ e in (
+        record { alphabet = alphabet-alone L K k _ e; fits = alphabet-fits L K k _ e; short = ltb-false N n (passed-by _ _ _ _ e3) },
+        passed-on _ _ _ _ e3,
+      )
+
+  -- the checks before decide, or those that are left
+  pub sizes-passed : (rest : Check) → sizesThen L K N k n Passed ≡ Passed → sizesThen L K N k n rest ≡ rest
+  sizes-passed rest e = let s = sizes-on Passed e .0 in sizes-short rest (s .alphabet) (s .short)
+
+  pub sizes-refused : (rest : Check) (r : Refusal) → sizesThen L K N k n Passed ≡ Refused r → sizesThen L K N k n rest ≡ Refused r
+  unfolding sizesThen alphabetThen
+  sizes-refused rest r e =
+      refused-by (eqb k 0 || ltb L k) 1 0 _ _ r e
+      (λ e6. refused-by (ltb K k) 6 0 _ _ r e6
+      (λ e3. refused-by (ltb N n) 3 0 Passed rest r e3 (λ z. absurd (let v : _≡_ {A = ℕ} 0 1 = cc in omega arith))))
+
+-- ---- the checks of a conversion
+module _ (L K N k number place n room : ℕ) where
+  pub verdict-passed : alphabetThen L K k Passed ≡ Passed → n ≤ N → n ≤ place → n ≤ room → verdict L K N k number place n room ≡ Passed
+  unfolding verdict refuse
+  verdict-passed a short right roomy = sizes-short L K N k n _ a short ∙ simp (le-ltb place n right, le-ltb room n roomy)
+
+  -- what an accepted conversion may rely on
+  pub record Accepted : Type 0 where
+    pub sized : Sized L K N k n
     pub right : n ≤ place
     pub roomy : n ≤ room
 
   pub accepted : verdict L K N k number place n room ≡ Passed → Accepted
   unfolding verdict
   accepted e =
-      let e3 = alphabet-on L K k _ e in
-      let e5 = passed-on _ _ _ _ e3 in
-      let e8 = passed-on _ _ _ _ e5 in
+      let s = sizes-on L K N k n _ e in
       record {
-        alphabet = alphabet-alone L K k _ e;
-        fits = alphabet-fits L K k _ e;
-        short = ltb-false N n (passed-by _ _ _ _ e3);
-        right = ltb-false place n (passed-by _ _ _ _ e5);
-        roomy = ltb-false room n (passed-by _ _ _ _ e8);
+        sized = s .0;
+        right = ltb-false place n (passed-by _ _ _ _ (s .1));
+        roomy = ltb-false room n (passed-by _ _ _ _ (passed-on _ _ _ _ (s .1)));
       }
 
 -- ---- the checks of two products
@@ -193,4 +208,4 @@ module _ (L K N k : ℕ) (xs : List ℕ) (room : ℕ) where
   pub in-table : toVerdict L K N k xs room ≡ Passed → (i : ℕ) → i < length xs → getD xs i 0 < 2 ^ K
   in-table e i l =
       let a = to-accepted e in
-      lt-of-lt-of-le (good-small k (getD xs i 0) (all-letters k xs (a .right) i l)) (pow-mono (a .fits))
+      lt-of-lt-of-le (good-small k (getD xs i 0) (all-letters k xs (a .right) i l)) (pow-mono (a .sized .fits))

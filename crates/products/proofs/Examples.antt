@@ -11,7 +11,7 @@ use Rattle.inputs.specs.declared.refusal.Check.{Check}
 use Rattle.inputs.specs.declared.refusal.Check.the-variants.{Passed, Refused}
 use Rattle.products.specs.Primes.{primes, product, prime, productOf, firstProduct, divides, isProduct, dividing, letterOf}
 use Rattle.products.specs.Gcd.{commonUpTo, gcd}
-use Rattle.products.specs.Conversions.{firstOther, alphabetThen, verdict, toVerdict, fromVerdict}
+use Rattle.products.specs.Conversions.{firstOther, alphabetThen, sizesThen, verdict, toVerdict, fromVerdict}
 use Rattle.products.specs.Meetings.{pairVerdict, productsMeet, meetingOf}
 use Rattle.products.specs.declared.meeting.Meeting.{Meeting}
 use Rattle.products.specs.declared.meeting.Meeting.the-variants.{Known, Refused as MeetingRefused}
@@ -28,7 +28,7 @@ refusal n p = Refused (record { number = n; place = p })
 
 -- [ae], n and *
 pub aen : (toVerdict 32 9 65536 3 (3 ∷ 4 ∷ 7 ∷ []) 3 ≡ Passed) × (map productOf (3 ∷ 4 ∷ 7 ∷ []) ≡ 6 ∷ 5 ∷ 30 ∷ []) × (map letterOf (6 ∷ 5 ∷ 30 ∷ []) ≡ 3 ∷ 4 ∷ 7 ∷ [])
-unfolding toVerdict verdict alphabetThen refuse firstBad bad productOf product prime primes members membersFrom member digit letterOf dividing divides
+unfolding toVerdict verdict sizesThen alphabetThen refuse firstBad bad productOf product prime primes members membersFrom member digit letterOf dividing divides
 aen = (refl, refl, refl)
 
 -- 6 meets 10, not 5
@@ -38,7 +38,7 @@ six = (refl, refl)
 
 -- 0, 1, 4, 7 are refused for k = 3
 pub none : (converts 3 (0 ∷ []) ≡ refusal 7 0) × (converts 3 (1 ∷ []) ≡ refusal 7 0) × (converts 3 (4 ∷ []) ≡ refusal 7 0) × (converts 3 (7 ∷ []) ≡ refusal 7 0)
-unfolding fromVerdict verdict alphabetThen refuse firstOther isProduct firstProduct product primes divides
+unfolding fromVerdict verdict sizesThen alphabetThen refuse firstOther isProduct firstProduct product primes divides
 none = (refl, refl, refl, refl)
 
 pub none-meets : (meeting 3 4 6 ≡ MeetingRefused (record { number = 7; place = 0 })) × (meeting 3 6 4 ≡ MeetingRefused (record { number = 7; place = 1 }))
@@ -47,5 +47,5 @@ none-meets = (refl, refl)
 
 -- k is 1 to 9; 10 to 32 is refused with 6, others with 1
 pub alphabets : (converts 0 (6 ∷ []) ≡ refusal 1 0) × (converts 33 (6 ∷ []) ≡ refusal 1 0) × (converts 10 (6 ∷ []) ≡ refusal 6 0) × (converts 32 (6 ∷ []) ≡ refusal 6 0) × (converts 9 (6 ∷ []) ≡ Passed)
-unfolding fromVerdict verdict alphabetThen refuse firstOther isProduct firstProduct product primes divides
+unfolding fromVerdict verdict sizesThen alphabetThen refuse firstOther isProduct firstProduct product primes divides
 alphabets = (refl, refl, refl, refl, refl)

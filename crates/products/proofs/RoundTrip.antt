@@ -4,7 +4,6 @@ use mathlib.Core.List.{List, [], _∷_, map}
 use Prim.Native.Nat.{ℕ, zero, suc, _≤_, _<_}
 use native.Mathlib.Nat.{le-of-suc-le-suc, lt-of-lt-of-le}
 use native.Mathlib.Omega.{arith}
-use borrow.Author.Tests.{le-ltb}
 use lib.ListN.{length, getD, take, length-map}
 use lib.Pow.{pow-mono}
 use Rattle.promise.specs.Promised.{Promised}
@@ -66,15 +65,15 @@ module _ (L N k : ℕ) where
     products-accepted other h =
         let a = to-accepted L 9 N k cs room e in
         let l = length-map cs productOf in
-        let r = products-all k (map productOf cs) (λ i m. ap (isProduct k) (element productOf cs i (omega arith)) ∙ letter-taken k (a .fits) (getD cs i 0) (all-letters k cs (a .right) i (omega arith))) in
-        verdict-passed L 9 N k 7 (firstOther k (map productOf cs)) (length (map productOf cs)) other (a .alphabet)
-        (omega (arith, a .short)) (le-ltb _ _ r) (omega arith)
+        let r = products-all k (map productOf cs) (λ i m. ap (isProduct k) (element productOf cs i (omega arith)) ∙ letter-taken k (a .sized .fits) (getD cs i 0) (all-letters k cs (a .right) i (omega arith))) in
+        verdict-passed L 9 N k 7 (firstOther k (map productOf cs)) (length (map productOf cs)) other (a .sized .alphabet)
+        (omega (arith, a .sized .short)) r (omega arith)
 
     pub letters-same : map letterOf (map productOf cs) ≡ cs
     letters-same =
         let a = to-accepted L 9 N k cs room e in
         map-back productOf letterOf cs
-        (λ i m. letter-again (getD cs i 0) (lt-of-lt-of-le (good-small k (getD cs i 0) (all-letters k cs (a .right) i m)) (pow-mono (a .fits))))
+        (λ i m. letter-again (getD cs i 0) (lt-of-lt-of-le (good-small k (getD cs i 0) (all-letters k cs (a .right) i m)) (pow-mono (a .sized .fits))))
 
   module _ (vs : List ℕ) (room : ℕ) (e : fromVerdict L 9 N k vs room ≡ Passed) where
     -- the letters of accepted products are accepted, given the room
@@ -83,14 +82,14 @@ module _ (L N k : ℕ) where
     letters-accepted other h =
         let a = from-accepted L 9 N k vs room e in
         let l = length-map vs letterOf in
-        let r = letters-all k (map letterOf vs) (λ i m. ap (bad k) (element letterOf vs i (omega arith)) ∙ letter-good k (a .fits) (getD vs i 0) (all-products k vs (a .right) i (omega arith))) in
-        verdict-passed L 9 N k 5 (firstBad k (map letterOf vs)) (length (map letterOf vs)) other (a .alphabet)
-        (omega (arith, a .short)) (le-ltb _ _ r) (omega arith)
+        let r = letters-all k (map letterOf vs) (λ i m. ap (bad k) (element letterOf vs i (omega arith)) ∙ letter-good k (a .sized .fits) (getD vs i 0) (all-products k vs (a .right) i (omega arith))) in
+        verdict-passed L 9 N k 5 (firstBad k (map letterOf vs)) (length (map letterOf vs)) other (a .sized .alphabet)
+        (omega (arith, a .sized .short)) r (omega arith)
 
     pub products-same : map productOf (map letterOf vs) ≡ vs
     products-same =
         let a = from-accepted L 9 N k vs room e in
-        map-back letterOf productOf vs (λ i m. product-again k (a .fits) (getD vs i 0) (all-products k vs (a .right) i m))
+        map-back letterOf productOf vs (λ i m. product-again k (a .sized .fits) (getD vs i 0) (all-products k vs (a .right) i m))
 
   -- ---- on the calls: what one left is given to the other, which lends room for it
   pub letters-back : (cs d : List ℕ) (n : ℕ) (left e : List ℕ) (s : Converted) (after : List ℕ)

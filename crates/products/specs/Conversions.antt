@@ -23,14 +23,16 @@ firstOther k (v ∷ vs) = cond (isProduct k v) (suc (firstOther k vs)) 0
 unfoldable pub alphabetThen : ℕ → ℕ → ℕ → Check → Check
 alphabetThen L K k rest = refuse (eqb k 0 || ltb L k) 1 0 (refuse (ltb K k) 6 0 rest)
 
--- the checks of n elements, the first wrong one at `place`, its refusal's number given; the lent memory has room for so many
+-- checks 1, 6 and 3 of n elements, then those that are left
+unfoldable pub sizesThen : ℕ → ℕ → ℕ → ℕ → ℕ → Check → Check
+sizesThen L K N k n rest = alphabetThen L K k (refuse (ltb N n) 3 0 rest)
+
+-- of n elements the first wrong one is at `place`, n where there is none, its refusal's number given; the lent memory has room for so many
+abbrev pub elements : ℕ → ℕ → ℕ → ℕ → Check
+elements number place n room = refuse (ltb place n) number place (refuse (ltb room n) 8 0 Passed)
+
 unfoldable pub verdict : ℕ → ℕ → ℕ → ℕ → ℕ → ℕ → ℕ → ℕ → Check
-verdict L K N k number place n room =
-    alphabetThen L K k
-    (refuse (ltb N n) 3 0
-    (refuse (ltb place n) number place
-    (refuse (ltb room n) 8 0
-    Passed)))
+verdict L K N k number place n room = sizesThen L K N k n (elements number place n room)
 
 unfoldable pub toVerdict : ℕ → ℕ → ℕ → ℕ → List ℕ → ℕ → Check
 toVerdict L K N k cs room = verdict L K N k 5 (firstBad k cs) (length cs) room

@@ -3,14 +3,13 @@ use crate::product::Product;
 use crate::product::first_product;
 use crate::product::is_product;
 use inputs::checks::Text;
-use inputs::checks::any_bad;
 use inputs::checks::first_bad;
 use inputs::refusal::Check;
 use inputs::refusal::Refusal;
 use letters::letter::Letter;
 ghost use mathlib.Core.Path.{_≡_};
 ghost use Prim.Native.Nat.{_≤_};
-ghost use Rattle.products.specs.Conversions.{firstOther, alphabetThen, toVerdict, fromVerdict};
+ghost use Rattle.products.specs.Conversions.{firstOther, alphabetThen, sizesThen, elements, toVerdict, fromVerdict};
 ghost use Rattle.products.specs.Meetings.{pairVerdict};
 
 fn refused(number: u32, place: usize) -> Check
@@ -51,45 +50,51 @@ pub(crate) fn first_other(k: u32, values: &[u32]) -> usize
     i
 }
 
-// The checks of letters that are to be products, with room for so many.
-pub(crate) fn check_letters(k: u32, letters: &[u32], room: usize) -> Check
-    ensures { λ r. do ⌜ r ≡ toVerdict (← ⟦Letter::MAX_K⟧ .entry) (← ⟦Product::MAX_K⟧ .entry) (← ⟦Text::MAX_N⟧ .entry) k (now (letters .entry)) room ⌝ }
+// Checks 1, 6 and 3, of n elements.
+pub(crate) fn check_sizes(k: u32, n: usize) -> Check
+    ensures { λ r. do ⌜ r ≡ sizesThen (← ⟦Letter::MAX_K⟧ .entry) (← ⟦Product::MAX_K⟧ .entry) (← ⟦Text::MAX_N⟧ .entry) k n Check.Passed ⌝ }
 {
     let alphabet = check_alphabet(k);
     if let Check::Refused(r) = alphabet {
         return Check::Refused(r);
     }
-    if Text::MAX_N < letters.len() {
+    if Text::MAX_N < n {
         return refused(3, 0);
     }
-    if any_bad(k, letters) {
-        return refused(5, first_bad(k, letters));
+    Check::Passed
+}
+
+// Check 5 or 7 by its number, then 8: of n elements the lowest wrong one is at a place, n if there is none; there is room for so many.
+fn check_elements(number: u32, place: usize, n: usize, room: usize) -> Check
+    ensures { λ r. ⌜ r ≡ elements number place n room ⌝ }
+{
+    if place < n {
+        return refused(number, place);
     }
-    if room < letters.len() {
+    if room < n {
         return refused(8, 0);
     }
     Check::Passed
+}
+
+// The checks of letters that are to be products, with room for so many.
+pub(crate) fn check_letters(k: u32, letters: &[u32], room: usize) -> Check
+    ensures { λ r. do ⌜ r ≡ toVerdict (← ⟦Letter::MAX_K⟧ .entry) (← ⟦Product::MAX_K⟧ .entry) (← ⟦Text::MAX_N⟧ .entry) k (now (letters .entry)) room ⌝ }
+{
+    match check_sizes(k, letters.len()) {
+        Check::Refused(r) => Check::Refused(r),
+        Check::Passed => check_elements(5, first_bad(k, letters), letters.len(), room),
+    }
 }
 
 // The checks of products that are to be letters, with room for so many.
 pub(crate) fn check_products(k: u32, products: &[u32], room: usize) -> Check
     ensures { λ r. do ⌜ r ≡ fromVerdict (← ⟦Letter::MAX_K⟧ .entry) (← ⟦Product::MAX_K⟧ .entry) (← ⟦Text::MAX_N⟧ .entry) k (now (products .entry)) room ⌝ }
 {
-    let alphabet = check_alphabet(k);
-    if let Check::Refused(r) = alphabet {
-        return Check::Refused(r);
+    match check_sizes(k, products.len()) {
+        Check::Refused(r) => Check::Refused(r),
+        Check::Passed => check_elements(7, first_other(k, products), products.len(), room),
     }
-    if Text::MAX_N < products.len() {
-        return refused(3, 0);
-    }
-    let at = first_other(k, products);
-    if at < products.len() {
-        return refused(7, at);
-    }
-    if room < products.len() {
-        return refused(8, 0);
-    }
-    Check::Passed
 }
 
 // The checks of two products that may meet.

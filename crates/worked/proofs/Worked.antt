@@ -1,6 +1,6 @@
 -- The starred examples hold: for every line of the table, what the definitions answer is what is due. Assumes nothing.
 use mathlib.Core.Path.{_≡_, refl}
-use mathlib.Core.List.{List, map}
+use mathlib.Core.List.{map}
 use lib.Count.{ones, onesIn}
 use Rattle.letters.specs.Digits.{digit}
 use Rattle.letters.specs.Letters.{member, shared, meets, single}
@@ -24,12 +24,12 @@ use Rattle.shiftand.specs.ShiftAnd.{shiftandTurn, shiftandRun}
 use Rattle.hybrid.specs.Stretches.{stretch}
 use Rattle.hybrid.specs.Hybrid.{hybridTurn, hybridRun}
 use Rattle.products.specs.Primes.{primes, product, prime, productOf, firstProduct, divides, isProduct, dividing, letterOf}
-use Rattle.products.specs.Conversions.{firstOther, alphabetThen, verdict as conversion, toVerdict, fromVerdict}
+use Rattle.products.specs.Conversions.{firstOther, alphabetThen, sizesThen, verdict as conversion, toVerdict, fromVerdict}
 use Rattle.products.specs.Gcd.{commonUpTo, gcd}
 use Rattle.products.specs.Meetings.{pairVerdict, productsMeet}
-use Rattle.worked.specs.Asked.{Given, given}
+use Rattle.worked.specs.Asked.{given}
 use Rattle.worked.specs.Table.{Example, examples}
 
 pub worked : map (λ (e : Example). given (e .asked)) examples ≡ map (λ (e : Example). e .due) examples
-unfolding ones onesIn digit member shared meets single membersFrom members met hitAt hitsFrom hits over run reach tests plain span least fit trial trials back backTests lastIn afterR bad firstBad refuse verdict bruteTurn bruteRun nowMet shiftBy shiftTests kmpTurn kmpRun firstShift firstTests failShift secondShift bmTurn bmRun nextStart sundayTurn sundayRun moved positions stepped isSet shiftandTurn shiftandRun stretch hybridTurn hybridRun primes product prime productOf firstProduct divides isProduct dividing letterOf firstOther alphabetThen conversion toVerdict fromVerdict commonUpTo gcd pairVerdict productsMeet
+unfolding ones onesIn digit member shared meets single membersFrom members met hitAt hitsFrom hits over run reach tests plain span least fit trial trials back backTests lastIn afterR bad firstBad refuse verdict bruteTurn bruteRun nowMet shiftBy shiftTests kmpTurn kmpRun firstShift firstTests failShift secondShift bmTurn bmRun nextStart sundayTurn sundayRun moved positions stepped isSet shiftandTurn shiftandRun stretch hybridTurn hybridRun primes product prime productOf firstProduct divides isProduct dividing letterOf firstOther alphabetThen sizesThen conversion toVerdict fromVerdict commonUpTo gcd pairVerdict productsMeet
 worked = refl

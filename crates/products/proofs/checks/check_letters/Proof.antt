@@ -1,99 +1,60 @@
--- `products::checks::check_letters` meets its contract: the tests that led to a return say which check holds. Assumes nothing.
+-- `products::checks::check_letters` meets its contract: the sizes decide, or the elements. Assumes nothing.
+use Prim.Native.Nat.{ℕ}
 use mathlib.Core.Path.{_≡_, sym, ap, _∙_}
 use native.Mathlib.Omega.{arith}
-use Prim.Native.Nat.{ℕ}
 use borrow.Author.Needs.{needs}
-use Rattle.inputs.specs.declared.refusal.Check.the-variants.{Passed, Refused}
-use Rattle.products.specs.Conversions.{alphabetThen, toVerdict}
-use Rattle.products.proofs.CheckLaws.{alphabet-fits, verdict-alphabet, verdict-long, verdict-element, verdict-room, verdict-passed}
+use lib.ListN.{length}
+use Rattle.inputs.specs.declared.refusal.Check.the-variants.{Passed}
+use Rattle.products.specs.Conversions.{sizesThen, elements, verdict, toVerdict}
+use Rattle.products.proofs.CheckLaws.{sizes-on, sizes-passed, sizes-refused}
 use Rattle.products.proofs.checks.check_letters.Statement.{statement}
 use Rattle.products.proofs.checks.check_letters.Tie as tie
 
-check-alphabet-requires : tie.Need-check-alphabet-requires
-check-alphabet-requires c κs = search needs
+check-sizes-requires : tie.Need-check-sizes-requires
+check-sizes-requires c κs = search needs
 
-enum-known-alphabet : tie.Need-enum-known-alphabet
-enum-known-alphabet c = search needs
-
-returns : tie.Need-returns
-unfolding toVerdict
-returns c =
-    let b = c .before .before .before in
-    sym (verdict-alphabet 32 9 65536 _ 5 _ _ _ _ (sym (b .check-alphabet .ensures) ∙ c .before .alphabet .given .1))
+enum-known-r : tie.Need-enum-known-r
+enum-known-r c = search needs
 
 enum-told : tie.Need-enum-told
 enum-told c = search needs
 
--- past the checks of the alphabet
-alphabet : (c : tie.After-enum-told) → alphabetThen 32 9 (c .before .before .before .before .args .k) Passed ≡ Passed
-alphabet c = sym (c .before .before .check-alphabet .ensures) ∙ c .enum-told .given .1
-
-refused-requires : tie.Need-refused-requires
-refused-requires c κs = search needs
-
-returns-2 : tie.Need-returns-2
-unfolding toVerdict
-returns-2 c =
-    let t = c .before in
-    c .refused .ensures ∙ sym (verdict-long 32 9 65536 _ 5 _ _ _ (alphabet (t .before)) (t .if1 .taken))
-
-any-bad-requires : tie.Need-any-bad-requires
-any-bad-requires c κs = omega (arith, alphabet-fits 32 9 (c .before .before .before .before .before .args .k) Passed (alphabet (c .before)))
+-- past the checks of the sizes
+sized : (c : tie.After-enum-told) →
+    let a = c .before .before .before .before .args in
+    sizesThen 32 9 65536 (a .k) (length (a .letters .now)) Passed ≡ Passed
+sized c = sym (c .before .before .check-sizes .ensures) ∙ c .enum-told .given .1
 
 first-bad-requires : tie.Need-first-bad-requires
-first-bad-requires c κs =
-    let b = c .before .before in
-    omega (arith, alphabet-fits 32 9 (b .before .before .before .before .before .args .k) Passed (alphabet (b .before)))
+first-bad-requires c κs = omega (arith, sizes-on 32 9 65536 _ _ _ (sized c) .0 .fits)
 
-refused-requires-2 : tie.Need-refused-requires-2
-refused-requires-2 c κs = search needs
+check-elements-requires : tie.Need-check-elements-requires
+check-elements-requires c κs = search needs
 
-returns-3 : tie.Need-returns-3
-unfolding toVerdict
-returns-3 c =
+returns : tie.Need-returns
+unfolding toVerdict verdict
+returns c =
+    let b = c .before .before .before in
+    sym (sizes-refused 32 9 65536 _ _ _ _ (sym (b .check-sizes .ensures) ∙ c .before .r .given .1))
+
+returns-2 : tie.Need-returns-2
+unfolding toVerdict verdict
+returns-2 c =
     let f = c .before in
-    let t = f .before in
-    let a = t .before in
-    let s = a .before in
-    c .refused2 .ensures
-    ∙ ap (λ (p : ℕ). Refused (record { number = 5; place = p })) (f .first-bad .ensures)
-    ∙ sym (verdict-element 32 9 65536 _ 5 _ _ _ (alphabet (s .before)) (s .if1 .left) (sym (a .any-bad .ensures) ∙ t .if2 .taken))
-
-refused-requires-3 : tie.Need-refused-requires-3
-refused-requires-3 c κs = search needs
-
-returns-4 : tie.Need-returns-4
-unfolding toVerdict
-returns-4 c =
-    let t = c .before in
-    let f = t .before in
-    let a = f .before in
-    let s = a .before in
-    c .refused3 .ensures
-    ∙ sym (verdict-room 32 9 65536 _ 5 _ _ _ (alphabet (s .before)) (s .if1 .left) (sym (a .any-bad .ensures) ∙ f .if2 .left) (t .if3 .taken))
-
-returns-5 : tie.Need-returns-5
-unfolding toVerdict
-returns-5 c =
-    let f = c .before in
-    let a = f .before in
-    let s = a .before in
-    sym (verdict-passed 32 9 65536 _ 5 _ _ _ (alphabet (s .before)) (s .if1 .left) (sym (a .any-bad .ensures) ∙ f .if2 .left) (c .if3 .left))
+    let e = f .before in
+    let a = e .before .before .before .before .args in
+    c .check-elements .ensures
+    ∙ ap (λ (x : ℕ). elements 5 x (length (a .letters .now)) (a .room)) (f .first-bad .ensures)
+    ∙ sym (sizes-passed 32 9 65536 _ _ _ (sized e))
 
 pub check-letters-spec : {M : Type 1} → statement M
 check-letters-spec =
     tie.close
     (tie.spec
-    check-alphabet-requires
-    enum-known-alphabet
-    returns
+    check-sizes-requires
+    enum-known-r
     enum-told
-    refused-requires
-    returns-2
-    any-bad-requires
     first-bad-requires
-    refused-requires-2
-    returns-3
-    refused-requires-3
-    returns-4
-    returns-5)
+    check-elements-requires
+    returns
+    returns-2)

@@ -1,0 +1,28 @@
+-- `products::checks::check_elements` meets its contract. Assumes nothing.
+use borrow.Author.Needs.{needs}
+use borrow.Author.Tests.{lt-ltb, le-ltb}
+use Rattle.inputs.specs.Refusals.{refuse}
+use Rattle.products.proofs.checks.check_elements.Statement.{statement}
+use Rattle.products.proofs.checks.check_elements.Tie as tie
+
+refused-requires : tie.Need-refused-requires
+refused-requires c κs = search needs
+
+returns : tie.Need-returns
+unfolding refuse
+returns c = rw (lt-ltb _ _ (c .before .if1 .taken)) (c .refused .ensures)
+
+refused-requires-2 : tie.Need-refused-requires-2
+refused-requires-2 c κs = search needs
+
+returns-2 : tie.Need-returns-2
+unfolding refuse
+returns-2 c = rw (le-ltb _ _ (c .before .before .if1 .left), lt-ltb _ _ (c .before .if2 .taken)) (c .refused2 .ensures)
+
+returns-3 : tie.Need-returns-3
+unfolding refuse
+returns-3 c = rw (le-ltb _ _ (c .before .if1 .left), le-ltb _ _ (c .if2 .left))
+
+pub check-elements-spec : {M : Type 1} → statement M
+check-elements-spec =
+    tie.close (tie.spec refused-requires returns refused-requires-2 returns-2 returns-3)
