@@ -19,7 +19,7 @@ converted-requires c κs =
     let s = c .before .before in
     let a = s .before .before .before .before .args in
     rw (s .to-products .ensures .answers) (done-small (toVerdict 32 9 65536 (a .k) (a .from .now) (length (a .to .now))) productOf (a .from .now)
-    (λ e. to-accepted 32 9 65536 (a .k) (a .from .now) (length (a .to .now)) e .short))
+    (λ e. to-accepted 32 9 65536 (a .k) (a .from .now) (length (a .to .now)) e .sized .short))
 
 same-length : tie.Need-same-length
 same-length c = search needs
