@@ -15,7 +15,7 @@
  * lent slice. Past the result of an accepted call a lent slice keeps its contents.
  *
  * STACK. Bytes of stack that a call uses, measured on x86-64 by c/stack.c, which runs each call on a thread whose stack was filled with a
- * pattern: report 67,336 (it holds the text and the list of hits of a sheet), kmp 4,152, to_products 2,000, read_sheet 1,152, bm 1,128, hybrid
+ * pattern: report 67,856 (it holds the text and the list of hits of a sheet), kmp 4,152, to_products 2,000, read_sheet 1,664, bm 1,128, hybrid
  * 512, every other call less.
  */
 #ifndef BREAKWARP_H
