@@ -43,7 +43,7 @@ static const char *const NAMES[] = {"johann", "anna", "maria", "thomas", "margar
   "baptised", "buried", "married", "son", "daughter", "of", "wife", "widow", "and", "the", "day", "parish", "labourer", "husbandman", "yeoman",
   "spinster", "weaver", "infant", "base", "born", "january", "february", "march", "april", "may", "june", "july", "august"};
 static const char *const CONFUSED[] = {"ao", "nu", "ec", "ij", "mn", "uv", "vw", "rn", "tl", "ft", "hk", "gy", "qg", "sf", "bh", "pq", "dl", "oe",
-  "zx", "rv", "it", "cr", "au", "lb", "kr", "wm", "ea", "yj", "xk", "sz", "aeo", "nmu", "iju", "rnv", "tlf", "ceo", "hkb", "sfz", "gyq", "uvw"};
+  "zx", "rv", "it", "cr", "au", "lb", "kr", "wm", "ea", "yj", "xk", "sz", "aeo", "nmu", "iju", "rnv", "tlf", "eco", "hkb", "sfz", "gyq", "uvw"};
 #define COUNT(a) (sizeof(a) / sizeof *(a))
 static uint32_t set(const char *s) {
   uint32_t v = 0;

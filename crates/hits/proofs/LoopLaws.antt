@@ -91,18 +91,6 @@ module _ {S : Type 0} {P T : List ℕ} {more : S → Bool} {turn : S → Turn S}
           sc sh st
 
       -- what is counted so far, with this turn's, is at most what the whole run counts
-      pub next-total-le : w .total + length (turn s .found) ≤ suc (length T)
-      next-total-le =
-          omega (
-            arith,
-            h .totals,
-            ap length (h .founds),
-            length-append (h .past) (run more turn F s .found),
-            ap (λ (r : Run). length (r .found)) one,
-            length-append (turn s .found) (run more turn F (turn s .next) .found),
-            total-small e,
-          )
-
       pub next-scan-le : w .scan + turn s .scan ≤ run more turn F s₀ .scan
       next-scan-le = omega (arith, h .scans, ap (λ (r : Run). r .scan) one)
 

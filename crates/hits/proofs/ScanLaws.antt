@@ -1,5 +1,5 @@
 -- Laws of a scan from left to right, by the letter that it has come to. Assumes nothing.
-use mathlib.Core.Path.{_≡_, refl, sym, _∙_}
+use mathlib.Core.Path.{_≡_, sym, _∙_}
 use mathlib.Core.Bool.{Bool, true, false}
 use mathlib.Core.List.{List}
 use mathlib.Core.Logic.{⊎-elim}
@@ -14,7 +14,7 @@ use Rattle.letters.proofs.Truth.{bool-cases}
 use Rattle.hits.specs.Hits.{met, hitAt}
 use Rattle.hits.specs.Scans.{reach, tests}
 use Rattle.hits.specs.Counts.{tally}
-use Rattle.hits.proofs.HitLaws.{meetsAt, met-none, met-on, met-fail, hit-is, no-hit}
+use Rattle.hits.proofs.HitLaws.{meetsAt, met-none, met-on, hit-is, no-hit}
 
 module _ (P T : List ℕ) (i : ℕ) where
   abbrev at : ℕ → Bool
@@ -75,15 +75,6 @@ module _ (P T : List ℕ) (i b j : ℕ) where
   pub reach-end : b ≤ j → reach P T i j (b - j) ≡ j
   unfolding reach
   reach-end l = let z : b - j ≡ 0 = omega arith in rw z
-
--- the whole prefix meets exactly if a scan from its start reaches its end
-module _ (P T : List ℕ) (i h : ℕ) where
-  pub reach-whole : reach P T i 0 h ≡ h → met P T i h ≡ true
-  unfolding met
-  reach-whole e = rw e at (reach-met P T i 0 h refl)
-
-  pub reach-short : reach P T i 0 h < h → met P T i h ≡ false
-  reach-short l = met-fail P T i h (reach P T i 0 h) l (reach-halt P T i 0 h (omega arith))
 
 -- a start is a hit exactly if a scan reaches the pattern's end, from any letters that meet already
 pub reach-hit : (P T : List ℕ) (i r : ℕ) → i + length P ≤ length T → r ≤ length P → met P T i r ≡ true

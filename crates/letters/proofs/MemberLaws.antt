@@ -13,7 +13,6 @@ use lib.ListN.{getD}
 use Rattle.letters.specs.Letters.{member}
 use Rattle.letters.specs.Members.{membersFrom, members, greatestOf, unionOf}
 use Rattle.letters.proofs.DigitLaws.{digit-zero}
-use Rattle.letters.proofs.Truth.{bool-cases}
 use Rattle.letters.proofs.LetterLaws.{digit-member, no-member}
 use Rattle.letters.proofs.LowestLaws.{low}
 
@@ -75,18 +74,3 @@ union-step k tab c p h = rw (members-walk k c p h)
 pub union-end : (k : ℕ) (tab : List ℕ) → unionOf tab (members k 0) ≡ 0
 unfolding unionOf
 union-end k tab = rw (members-none k)
-
--- the greatest over the members: an upper bound that is reached, or 0
-pub greatest-upper : (k : ℕ) (tab : List ℕ) (c b : ℕ) → b < k → member b c ≡ true → getD tab b 0 ≤ greatestOf tab (members k c)
-unfolding members membersFrom greatestOf
-greatest-upper k tab c b l m = go 0 k (omega arith) (omega arith)
-  where
-    go : (a f : ℕ) → a ≤ b → b < a + f → getD tab b 0 ≤ greatestOf tab (membersFrom c a f)
-    go a zero x y = absurd (omega arith)
-    go a (suc f) x y = ⊎-elim (at a f) (λ (q : a < b). past a f (go (suc a) f q (omega arith))) (eq-or-lt-of-le x)
-      where
-        at : (a f : ℕ) → a ≡ b → getD tab b 0 ≤ greatestOf tab (membersFrom c a (suc f))
-        at a f q = rw (q, m) (omega arith)
-
-        past : (a f : ℕ) → getD tab b 0 ≤ greatestOf tab (membersFrom c (suc a) f) → getD tab b 0 ≤ greatestOf tab (membersFrom c a (suc f))
-        past a f h = bool-cases (member a c) (λ y. rw y (omega arith)) (λ n. rw n h)

@@ -14,6 +14,13 @@ pub struct Product {
 impl Product {
     // The largest alphabet for products: nine primes.
     pub const MAX_K: u32 = 9;
+
+    // It as a number: a contract that hands over the constant follows it wherever it goes, and this one does not.
+    pub fn pinned() -> u32
+        ensures { λ r. ⌜ r ≡ 9 ⌝ }
+    {
+        Product::MAX_K
+    }
 }
 
 // The product of the first k primes, at k.

@@ -26,6 +26,13 @@ pub struct Report {
 impl Report {
     // No report of an accepted sheet is longer.
     pub const MAX_BYTES: usize = 40000;
+
+    // It as a number, which the C header has too.
+    pub fn pinned() -> usize
+        ensures { λ r. ⌜ r ≡ 40000 ⌝ }
+    {
+        Report::MAX_BYTES
+    }
 }
 
 // What the report call answers.

@@ -9,7 +9,7 @@ use borrow.Author.Tests.{leb-true, leb-false, le-leb, lt-leb, ltb-true, ltb-fals
 use lib.Dec.{leb, ltb}
 use lib.ListN.{length, getD}
 use Rattle.letters.specs.Members.{keep}
-use Rattle.letters.proofs.Truth.{bool-cases, and-true-l, and-true-r}
+use Rattle.letters.proofs.Truth.{bool-cases, and-true-r}
 use Rattle.hits.specs.Hits.{hitAt, hits, hitsFrom}
 use Rattle.hits.specs.Turns.{Turn, Run, idle, run}
 use Rattle.hits.proofs.RunLaws.{Sound, Fair, run-stop, run-on, finds-all, bounded}
@@ -19,9 +19,6 @@ use Rattle.word.proofs.WordLaws.{digits, zero-means, stepped-means, top-hit}
 use Rattle.shiftand.specs.ShiftAnd.{Reading, shiftandTurn, unread, cleared, shiftandRun}
 
 module _ (P T : List ℕ) where
-  pub unread-fits : (s : Reading) → unread P T s ≡ true → length P ≤ length T
-  unread-fits s y = leb-true _ _ (and-true-l (leb (length P) (length T)) (ltb (s .read) (length T)) y)
-
   pub unread-left : (s : Reading) → unread P T s ≡ true → s .read < length T
   unread-left s y = ltb-true _ _ (and-true-r (leb (length P) (length T)) (ltb (s .read) (length T)) y)
 
