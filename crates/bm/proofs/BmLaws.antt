@@ -9,18 +9,20 @@ use borrow.Author.Tests.{le-leb, lt-leb, eqb-true, eqb-false, eq-eqb, ne-eqb, lt
 use lib.Dec.{eqb, ltb}
 use lib.ListN.{length, getD}
 use Rattle.letters.specs.Members.{keep}
+use Rattle.letters.specs.Sizes.{Sized}
 use Rattle.letters.proofs.Truth.{bool-cases}
 use Rattle.hits.specs.Hits.{within, hitAt, hits}
 use Rattle.hits.specs.Turns.{Turn, Run, idle}
+use Rattle.hits.specs.Counts.{turnOf}
+use Rattle.hits.specs.declared.work.Turned.{Turned}
 use Rattle.hits.proofs.HitLaws.{hit-is, no-hit, one-from}
-use Rattle.hits.proofs.RunLaws.{Sound, finds-all, bounded, Passing, by-start, per-start, no-start, per-start-small, per-shift-small}
+use Rattle.hits.proofs.RunLaws.{Sound, finds-all, bounded, Passing, by-start, per-start, no-start, start-small, shift-small}
 use Rattle.shifts.specs.Least.{least}
 use Rattle.shifts.specs.Shift.{fit, trials}
-use Rattle.shifts.specs.Singles.{plain}
-use Rattle.shifts.proofs.BackLaws.{back-le, span-back, backTests-le}
+use Rattle.hits.specs.Singles.{allSingle}
+use Rattle.hits.proofs.BackLaws.{back-le, met-back, backTests-le}
 use Rattle.shifts.proofs.LeastLaws.{least-ge, least-le, least-first}
 use Rattle.shifts.proofs.ShiftLaws.{unfit, trials-pay}
-use Rattle.shifts.proofs.SpanLaws.{span-met}
 use Rattle.pattern.specs.Last.{afterR}
 use Rattle.pattern.proofs.LastLaws.{last-above}
 use Rattle.bm.specs.Bm.{endMet, firstShift, firstTests, failShift, secondShift, bmTurn, bmRun}
@@ -107,20 +109,16 @@ module _ (P T : List ℕ) (i : ℕ) where
   end-hit l =
       let z : length P - length P ≡ 0 = omega arith in
       sym
-      (hit-is P T i l ∙ sym (span-met P T i (length P)) ∙ (rw z at (span-back P T i (length P) (length P) (omega arith)))
+      (hit-is P T i l ∙ (rw z at (met-back P T i (length P) (length P) (omega arith)))
       ∙ end-cases
       (λ (e : endMet P T i ≡ length P). le-leb (length P) (endMet P T i) (omega arith) ∙ sym (eq-eqb _ _ e))
       (λ (k : endMet P T i < length P). lt-leb (length P) (endMet P T i) k ∙ sym (ne-eqb (endMet P T i) (length P) (λ e. omega arith))))
 
 module _ (P T : List ℕ) where
   -- a turn moves on, and not past the text's end
-  pub goes-on : (i : ℕ) → i < bmTurn P T i .next
+  pub turn-ahead : 0 < length P → (i : ℕ) → i + length P ≤ length T → (r : Turned) → turnOf i r ≡ bmTurn P T i → (i < r .next) × (r .next ≤ length T)
   unfolding bmTurn
-  goes-on i = let g = first-ge P T i (endMet P T i) in omega arith
-
-  pub stays-in : 0 < length P → (i : ℕ) → i + length P ≤ length T → bmTurn P T i .next ≤ length T
-  unfolding bmTurn
-  stays-in pos i l = let b = by-le P T i pos in omega arith
+  turn-ahead pos i l r e = omega (arith, ap (λ (t : Turn ℕ). t .next) e, first-ge P T i (endMet P T i), by-le P T i pos)
 
   -- each turn settles the starts that it passes
   pub passing : Passing P T (bmTurn P T)
@@ -155,7 +153,7 @@ module _ (P T : List ℕ) where
 
   tests-cut : (i g : ℕ) → firstTests P T i g ≤ trials P T i (length P - g) (length P) 1 (length P - 1)
   unfolding firstTests
-  tests-cut i g = bool-cases (plain P 0 (length P) && plain T (i + (length P - g)) g) (λ e. rw e zero-le) (λ e. rw e (omega arith))
+  tests-cut i g = bool-cases (allSingle P 0 (length P) && allSingle T (i + (length P - g)) g) (λ e. rw e zero-le) (λ e. rw e (omega arith))
 
   -- what is left of the bound at start i
   abbrev room : ℕ → ℕ
@@ -183,10 +181,9 @@ module _ (P T : List ℕ) where
   unfolding bmRun
   bm-idle l = no-start P T (bmTurn P T) (suc (length T)) l
 
-  -- within limits on m and n the counts have a limit
-  module _ (M N : ℕ) (h : length P ≤ M) (k : length T ≤ N) where
-    pub scan-small : bmRun P T .scan ≤ M * (N + 1)
-    scan-small = per-start-small M N (length P) (length T) _ bm-scan h k
+-- within the limits the counts fit a word
+pub bm-scan-small : {M N : ℕ} {P T : List ℕ} → Sized M N P T → bmRun P T .scan ≤ M * (N + 1)
+bm-scan-small {M} {N} {P} {T} s = start-small s (bmRun P T .scan) (bm-scan P T)
 
-    pub shift-small : 0 < length P → bmRun P T .shift ≤ N * M
-    shift-small pos = per-shift-small M N (length P) (length T) _ (bm-shift pos) h k
+pub bm-shift-small : {M N : ℕ} {P T : List ℕ} → Sized M N P T → bmRun P T .shift ≤ N * M
+bm-shift-small {M} {N} {P} {T} s = shift-small s (bmRun P T .shift) (bm-shift P T (s .pattern .some))

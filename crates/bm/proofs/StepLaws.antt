@@ -1,6 +1,6 @@
 -- A turn of BM's rule, by the letters that are left when its scan stops: none, all, or some. Assumes nothing.
 use mathlib.Core.Path.{_≡_, refl, sym, ap, _∙_}
-use mathlib.Core.Bool.{Bool, true, false, cond, _&&_, or-true}
+use mathlib.Core.Bool.{Bool, true, false, _&&_, or-true}
 use mathlib.Core.List.{List, []}
 use Prim.Native.Nat.{ℕ, zero, suc, _+_, _-_, _≤_, _<_, max}
 use native.Mathlib.Omega.{arith}
@@ -8,24 +8,26 @@ use borrow.Author.Tests.{eq-eqb, ne-eqb, lt-ltb, le-ltb}
 use lib.Dec.{leb, ltb, eqb}
 use lib.ListN.{length}
 use Rattle.letters.specs.Members.{keep}
+use Rattle.letters.proofs.Truth.{bool-cases}
 use Rattle.hits.specs.Counts.{tally}
 use Rattle.hits.specs.Scans.{tests}
 use Rattle.hits.specs.Turns.{Turn}
 use Rattle.shifts.specs.Shift.{covers, fit, trial, trials}
-use Rattle.shifts.specs.Singles.{plain}
-use Rattle.shifts.specs.Spans.{span}
-use Rattle.shifts.proofs.BackLaws.{tests-back}
+use Rattle.hits.specs.Singles.{allSingle}
+use Rattle.hits.specs.Hits.{met}
+use Rattle.hits.proofs.BackLaws.{tests-back}
 use Rattle.shifts.proofs.LeastLaws.{least-here}
 use Rattle.bm.specs.Bm.{endMet, firstShift, firstTests, failShift, secondShift, bmTurn}
+use Rattle.bm.specs.Steps.{Stopped}
 use Rattle.bm.proofs.BmLaws.{first-ge, first-le, fail-ge, fail-le, second-hit, second-miss}
 
 -- the tests of the first shift, by whether all of P and the g text letters are single
 module _ (P T : List ℕ) (i g : ℕ) where
-  pub tests-sure : (plain P 0 (length P) && plain T (i + (length P - g)) g) ≡ true → firstTests P T i g ≡ 0
+  pub tests-sure : (allSingle P 0 (length P) && allSingle T (i + (length P - g)) g) ≡ true → firstTests P T i g ≡ 0
   unfolding firstTests
   tests-sure e = rw e
 
-  pub tests-tried : (plain P 0 (length P) && plain T (i + (length P - g)) g) ≡ false → firstTests P T i g ≡ trials P T i (length P - g) (length P) 1 (length P - 1)
+  pub tests-tried : (allSingle P 0 (length P) && allSingle T (i + (length P - g)) g) ≡ false → firstTests P T i g ≡ trials P T i (length P - g) (length P) 1 (length P - 1)
   unfolding firstTests
   tests-tried e = rw e
 
@@ -35,16 +37,12 @@ module _ (P T : List ℕ) (i : ℕ) (pos : 0 < length P) where
   nothing = omega arith
 
   fit-one : fit P T i (length P - 0) (length P) 1 ≡ true
-  unfolding fit span
+  unfolding fit met
   fit-one = rw nothing (or-true (ltb (length T) (i + 1 + length P)))
-
-  either : (b : Bool) → _≡_ {A = ℕ} (cond b 0 0) 0
-  either true = refl
-  either false = refl
 
   trial-one : trial P T i (length P - 0) (length P) 1 ≡ 0
   unfolding trial tests
-  trial-one = rw nothing (either (leb (i + 1 + length P) (length T)))
+  trial-one = bool-cases (leb (i + 1 + length P) (length T)) (λ y. rw (y, nothing)) (λ n. rw n)
 
   trials-one : (f : ℕ) → trials P T i (length P - 0) (length P) 1 f ≡ 0
   unfolding trials
@@ -56,8 +54,10 @@ module _ (P T : List ℕ) (i : ℕ) (pos : 0 < length P) where
   first-one = least-here (fit P T i (length P - 0) (length P)) 1 (length P - 1) fit-one
 
   tests-none : firstTests P T i 0 ≡ 0
-  unfolding firstTests
-  tests-none = rw (trials-one (length P - 1)) (either (plain P 0 (length P) && plain T (i + (length P - 0)) 0))
+  tests-none =
+      bool-cases (allSingle P 0 (length P) && allSingle T (i + (length P - 0)) 0)
+      (λ y. tests-sure P T i 0 y)
+      (λ n. tests-tried P T i 0 n ∙ trials-one (length P - 1))
 
 -- the turn, number by number
 module _ (P T : List ℕ) (i g : ℕ) (e : g ≡ endMet P T i) where
@@ -68,7 +68,7 @@ module _ (P T : List ℕ) (i g : ℕ) (e : g ≡ endMet P T i) where
   turn-is hit by sc sh eh eb ec es = rw (eh, eb, ec, es, e, tests-back P T i (length P))
 
 -- the same by the letters that are left
-module _ (P T : List ℕ) (i left : ℕ) (pos : 0 < length P) (l : left ≤ length P) (e : length P - left ≡ endMet P T i) where
+module _ (P T : List ℕ) (i left : ℕ) (sure : Bool) (pos : 0 < length P) (h : Stopped P T i left sure) where
   abbrev g : ℕ
   g = length P - left
 
@@ -80,7 +80,7 @@ module _ (P T : List ℕ) (i left : ℕ) (pos : 0 < length P) (l : left ≤ leng
       let y : length P - 1 - 0 ≡ length P - 1 = omega arith in
       let f = ap (firstShift P T i) z ∙ first-one P T i pos in
       let b : secondShift P T i g ≡ s = second-miss P T i g (omega arith) ∙ rw (z, y) (sym es) in
-      turn-is P T i g e false s 1 0
+      turn-is P T i g (h .rest) false s 1 0
       (sym (ne-eqb g (length P) (λ q. omega arith)))
       (omega (arith, fail-ge P T i (length P - 1)))
       (rw (lt-ltb g (length P) (omega arith)) (omega arith))
@@ -92,7 +92,7 @@ module _ (P T : List ℕ) (i left : ℕ) (pos : 0 < length P) (l : left ≤ leng
   turn-hit w a sh ea es =
       let z : g ≡ length P = omega arith in
       let b = second-hit P T i g z in
-      turn-is P T i g e true a (length P) sh
+      turn-is P T i g (h .rest) true a (length P) sh
       (sym (eq-eqb g (length P) z))
       (omega (arith, first-ge P T i g))
       (rw (le-ltb g (length P) (omega arith)) (omega arith))
@@ -104,15 +104,15 @@ module _ (P T : List ℕ) (i left : ℕ) (pos : 0 < length P) (l : left ≤ leng
   turn-fail w a b sh ea eb es =
       let z : length P - 1 - g ≡ left - 1 = omega arith in
       let y : b ≡ secondShift P T i g = eb ∙ sym (second-miss P T i g (omega arith) ∙ ap (failShift P T i) z) in
-      turn-is P T i g e false (max a b) (g + 1) sh
+      turn-is P T i g (h .rest) false (max a b) (g + 1) sh
       (sym (ne-eqb g (length P) (λ q. omega arith)))
       (rw (ea, y))
       (rw (lt-ltb g (length P) (omega arith)))
       es
 
   -- neither shift is longer than the pattern
-  pub shifts-le : (a b : ℕ) → a ≡ firstShift P T i g → b ≡ failShift P T i (left - 1) → (a ≤ length P) × (b ≤ length P)
-  shifts-le a b ea eb = (omega (arith, first-le P T i g), omega (arith, fail-le P T i (left - 1)))
+  pub by-first : (a : ℕ) → a ≡ firstShift P T i g → a ≤ length P
+  by-first a ea = omega (arith, first-le P T i g)
 
-pub max-le : (r a b m : ℕ) → r ≡ max a b → a ≤ m → b ≤ m → r ≤ m
-max-le r a b m e x y = omega arith
+  pub by-larger : (a b r : ℕ) → a ≡ firstShift P T i g → b ≡ failShift P T i (left - 1) → r ≡ max a b → r ≤ length P
+  by-larger a b r ea eb er = omega (arith, h .top, first-le P T i g, fail-le P T i (left - 1))

@@ -1,4 +1,12 @@
 -- BM: tests right to left; shifts by the larger of two shifts.
+--
+--   endMet P T i        g, how many letters meet at start i, from the right
+--   firstShift P T i g  the least shift that fits the text under them
+--   firstTests P T i g  its tests
+--   failShift P T i j   the shift after a failure at letter j
+--   secondShift P T i g the same after the scan, and 1 after a hit
+--   bmTurn P T i        a turn at start i
+--   bmRun P T           the run
 use Prim.Native.Nat.{ℕ, suc, _+_, _-_, max}
 use mathlib.Core.Bool.{cond, _&&_}
 use mathlib.Core.List.{List, []}
@@ -7,12 +15,11 @@ use lib.ListN.{length, getD}
 use Rattle.letters.specs.Members.{keep}
 use Rattle.hits.specs.Hits.{within}
 use Rattle.hits.specs.Turns.{Turn, Run, run}
-use Rattle.shifts.specs.Back.{back, backTests}
+use Rattle.hits.specs.Scans.{back, backTests}
 use Rattle.shifts.specs.Least.{least}
 use Rattle.shifts.specs.Shift.{fit, trials}
-use Rattle.shifts.specs.Singles.{plain}
+use Rattle.hits.specs.Singles.{allSingle}
 use Rattle.pattern.specs.Last.{afterR}
-use Rattle.bm.specs.declared.Turned.{Turned}
 
 -- g: how many letters meet at start i, from the right
 abbrev pub endMet : List ℕ → List ℕ → ℕ → ℕ
@@ -25,7 +32,7 @@ firstShift P T i g = least (fit P T i (length P - g) (length P)) 1 (length P - 1
 -- its tests: none if all of P and those g text letters are single; else those of the trials s = 1, 2, ..
 unfoldable pub firstTests : List ℕ → List ℕ → ℕ → ℕ → ℕ
 firstTests P T i g =
-    cond (plain P 0 (length P) && plain T (i + (length P - g)) g) 0
+    cond (allSingle P 0 (length P) && allSingle T (i + (length P - g)) g) 0
     (trials P T i (length P - g) (length P) 1 (length P - 1))
 
 -- after a failure at P[j]: the larger of 1 and j - R(T[i + j]), which is j + 1 less R + 1
@@ -50,7 +57,3 @@ bmTurn P T i =
 -- from start 0, until the start exceeds n - m
 unfoldable pub bmRun : List ℕ → List ℕ → Run
 bmRun P T = run (within P T) (bmTurn P T) (suc (length T)) 0
-
--- the turn that a step of the code at start i stands for
-abbrev pub turnOf : ℕ → Turned → Turn ℕ
-turnOf i r = record { found = keep (r .hit) i []; next = r .next; scan = r .scan; shift = r .shift; steps = 0 }

@@ -1,50 +1,61 @@
-// The engine BM: tests right to left; shifts by the larger of two shifts, the first by the text under the letters that meet, the second by R of the text letter that does not.
+// The engine BM.
 //
-// Two things are asked only where they matter, and no count shows it: whether a letter is single, while all before it are; and the first shift, unless no letter meets, where it is 1 with no test.
+// Its rule: tests right to left; shifts by the larger of two shifts, the first by the text under the letters that meet, the second by R of the text letter that does not.
+//
+// Its source: H. Dehghani, T. Lecroq, N. Mhaskar and W. F. Smyth, "Practical KMP/BM Style Pattern-Matching on Indeterminate Strings" (000), algorithms 5 and 6. Departures:
+//
+// 1. Where the table of first shifts says nothing, the paper makes a string of the text and the pattern and takes its prefix array; here the shifts are tried over the text in turn, and every test is counted.
+// 2. The paper asks for the pattern's longest suffix of single letters; here the table serves where all of the pattern is single.
+// 3. The paper's mark of an unsure text letter, once set, stays for the rest of the text, and the letter that fails sets it too; here it is asked anew at each start, of the letters that meet.
+// 4. The paper's table for the letter that fails has a row for each prefix; here R is of the whole pattern, so that the second shift may come to nothing and is made 1.
+// 5. A first shift is cut to the first start past the last.
+// 6. Whether a letter is single is asked only while all before it are, and
+// 7. the first shift only where a letter meets: else it is 1 with no test. No count shows either.
+pub mod c;
+mod twice;
+
+use hits::scan::scan_back;
+use hits::work::Turned;
 use hits::work::Work;
 use hits::work::note;
-use inputs::checks::Text;
 use inputs::checks::checked;
 use inputs::refusal::Answer;
 use inputs::refusal::Check;
 use letters::letter::Letter;
-use pattern::Pattern;
+use letters::strings::Pattern;
+use letters::strings::Text;
+use letters::width::index;
+use pattern::Prepared;
 use pattern::after_r;
 use pattern::tables::Shifts;
 use shifts::Trials;
-use shifts::back::scan_back;
+use shifts::larger;
 use shifts::less;
 use shifts::smaller;
 use shifts::try_shifts;
-use shifts::wide;
 ghost use mathlib.Core.Path.{_≡_};
-ghost use mathlib.Core.Bool.{_&&_};
 ghost use mathlib.Core.List.{List};
-ghost use Prim.Native.Nat.{ℕ, max, _+_, _-_, _*_, _≤_, _<_};
+ghost use Prim.Native.Nat.{ℕ, _+_, _-_, _*_, _≤_, _<_};
 ghost use lib.ListN.{length};
-ghost use Rattle.hits.specs.Hits.{hits, over};
-ghost use Rattle.hits.specs.Counts.{workOf};
-ghost use Rattle.shifts.specs.Singles.{plain};
+ghost use Rattle.letters.specs.Sizes.{SizedPattern, Sized};
+ghost use Rattle.hits.specs.Hits.{hits};
+ghost use Rattle.lent.specs.Over.{over};
+ghost use Rattle.hits.specs.Counts.{workOf, turnOf};
 ghost use Rattle.pattern.specs.Tables.{LastTable, EndShifts};
 ghost use Rattle.inputs.specs.Answers.{Searched, scanOf, shiftOf};
-ghost use Rattle.bm.specs.Bm.{endMet, firstShift, firstTests, failShift, bmTurn, bmRun, turnOf};
-
-struct Turned {
-    hit: bool,
-    next: usize,
-    scan: u64,
-    shift: u64,
-}
-
-fn larger(a: usize, b: usize) -> usize
-    ensures { λ r. ⌜ r ≡ max a b ⌝ }
-{
-    if a < b { b } else { a }
-}
+ghost use Rattle.bm.specs.Bm.{firstShift, firstTests, failShift, bmTurn, bmRun};
+ghost use Rattle.bm.specs.Steps.{Readied, Stopped};
 
 // The first shift, with its tests, where all but the first `left` letters meet; `sure` tells whether the pattern and those text letters are all single. The table knows nothing of the text's end, so its shift is cut there.
-fn first_shift(p: &[u32], t: &[u32], by: &[u32; 65], i: usize, left: usize, sure: bool) -> Trials
-    requires { ⌜ (0 < length (now p)) × (length (now p) ≤ 64) × (i + length (now p) ≤ length (now t)) × EndShifts (now p) (now by) × (left ≤ length (now p)) × (length (now p) - left ≡ endMet (now p) (now t) i) × (sure ≡ (plain (now p) 0 (length (now p)) && plain (now t) (i + left) (length (now p) - left))) ⌝ }
+fn first_shift(
+    p: &[u32],
+    t: &[u32],
+    by: &[u32; Pattern::MAX_M + 1],
+    i: usize,
+    left: usize,
+    sure: bool,
+) -> Trials
+    requires { do ⌜ SizedPattern (← ⟦Pattern::MAX_M⟧) (now p) × EndShifts (now p) (now by) × Stopped (now p) (now t) i left sure ⌝ }
     ensures { λ r. ⌜ (r .by ≡ firstShift (now (p .entry)) (now (t .entry)) i (length (now (p .entry)) - left)) × (r .tests ≡ firstTests (now (p .entry)) (now (t .entry)) i (length (now (p .entry)) - left)) ⌝ }
 {
     let m = p.len();
@@ -54,23 +65,30 @@ fn first_shift(p: &[u32], t: &[u32], by: &[u32; 65], i: usize, left: usize, sure
     let g = m - left;
     let end = t.len() + 1 - (m + i);
     Trials {
-        by: smaller(wide(by[g]), end),
+        by: smaller(index(by[g]), end),
         tests: 0,
     }
 }
 
 // The shift after a failure at letter j.
-fn fail_shift(t: &[u32], lasts: &[u32; 32], i: usize, j: usize) -> usize
+fn fail_shift(t: &[u32], lasts: &[u32; Letter::MAX_K as usize], i: usize, j: usize) -> usize
     requires { ⌜ i + j < length (now t) ⌝ }
-    ensures { λ r. ⌜ ((P : List ℕ) → LastTable 32 P (now (lasts .entry)) → r ≡ failShift P (now (t .entry)) i j) ⌝ }
+    ensures { λ r. do K ← ⟦Letter::MAX_K⟧ .entry; ⌜ ((P : List ℕ) → LastTable K P (now (lasts .entry)) → r ≡ failShift P (now (t .entry)) i j) ⌝ }
 {
     let r = after_r(lasts, t[i + j]);
     larger(1, less(j + 1, r))
 }
 
 // A turn at start i.
-fn step(p: &[u32], t: &[u32], by: &[u32; 65], lasts: &[u32; 32], whole: bool, i: usize) -> Turned
-    requires { ⌜ (0 < length (now p)) × (length (now p) ≤ 64) × (i + length (now p) ≤ length (now t)) × EndShifts (now p) (now by) × LastTable 32 (now p) (now lasts) × (whole ≡ plain (now p) 0 (length (now p))) ⌝ }
+fn step(
+    p: &[u32],
+    t: &[u32],
+    by: &[u32; Pattern::MAX_M + 1],
+    lasts: &[u32; Letter::MAX_K as usize],
+    whole: bool,
+    i: usize,
+) -> Turned
+    requires { do ⌜ SizedPattern (← ⟦Pattern::MAX_M⟧) (now p) × Readied (← ⟦Letter::MAX_K⟧) (now p) (now by) (now lasts) whole × (i + length (now p) ≤ length (now t)) ⌝ }
     ensures { λ r. ⌜ turnOf i r ≡ bmTurn (now (p .entry)) (now (t .entry)) i ⌝ }
 {
     let m = p.len();
@@ -104,12 +122,12 @@ fn step(p: &[u32], t: &[u32], by: &[u32; 65], lasts: &[u32; 32], whole: bool, i:
 
 // The run over all starts.
 fn run(p: &[u32], t: &[u32], list: &mut [u32]) -> Work
-    requires { ⌜ (0 < length (now p)) × (length (now p) ≤ 64) × (length (now t) ≤ 65536) ⌝ }
+    requires { do ⌜ Sized (← ⟦Pattern::MAX_M⟧) (← ⟦Text::MAX_N⟧) (now p) (now t) ⌝ }
     ensures { λ r. ⌜ (r ≡ workOf (hits (now (p .entry)) (now (t .entry))) (bmRun (now (p .entry)) (now (t .entry)))) × (now (list .exit) ≡ over (hits (now (p .entry)) (now (t .entry))) (now (list .entry))) ⌝ }
 {
     let m = p.len();
     let n = t.len();
-    let q = Pattern::new(p);
+    let q = Prepared::new(p);
     let shifts = Shifts::from_end(p);
     let lasts = q.lasts;
     let by = shifts.by;

@@ -5,11 +5,12 @@ use Prim.Native.Nat.{ℕ, suc, _+_, _-_, _*_, _≤_, _<_}
 use native.Mathlib.Omega.{arith}
 use lib.ListN.{length}
 use Rattle.letters.specs.Members.{keep}
+use Rattle.letters.specs.Sizes.{Sized}
 use Rattle.hits.specs.Hits.{within, hits}
 use Rattle.hits.specs.Turns.{Turn, Run, idle}
 use Rattle.hits.proofs.HitLaws.{one-from}
 use Rattle.hits.proofs.ScanLaws.{scan-hit, tests-le}
-use Rattle.hits.proofs.RunLaws.{Sound, finds-all, Passing, by-start, per-start, no-start, per-start-small}
+use Rattle.hits.proofs.RunLaws.{Sound, finds-all, Passing, by-start, per-start, no-start, start-small}
 use Rattle.brute.specs.Brute.{bruteTurn, bruteRun}
 
 module _ (P T : List ℕ) where
@@ -43,6 +44,6 @@ module _ (P T : List ℕ) where
   unfolding bruteRun
   brute-idle l = no-start P T (bruteTurn P T) (suc (length T)) l
 
-  -- within the limits it fits a word
-  pub brute-small : length P ≤ 64 → length T ≤ 65536 → bruteRun P T .scan ≤ 64 * 65537
-  brute-small h k = per-start-small 64 65536 (length P) (length T) _ brute-scan h k
+-- within the limits it fits a word
+pub brute-small : {M N : ℕ} {P T : List ℕ} → Sized M N P T → bruteRun P T .scan ≤ M * (N + 1)
+brute-small {M} {N} {P} {T} s = start-small s (bruteRun P T .scan) (brute-scan P T)

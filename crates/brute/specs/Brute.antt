@@ -7,7 +7,6 @@ use Rattle.letters.specs.Members.{keep}
 use Rattle.hits.specs.Hits.{within}
 use Rattle.hits.specs.Scans.{reach, tests}
 use Rattle.hits.specs.Turns.{Turn, Run, run}
-use Rattle.brute.specs.declared.Turned.{Turned}
 
 -- a turn at start i
 unfoldable pub bruteTurn : List ℕ → List ℕ → ℕ → Turn ℕ
@@ -23,7 +22,3 @@ bruteTurn P T i =
 -- from start 0, until the start exceeds n - m
 unfoldable pub bruteRun : List ℕ → List ℕ → Run
 bruteRun P T = run (within P T) (bruteTurn P T) (suc (length T)) 0
-
--- the turn that a step of the code at start i stands for
-abbrev pub turnOf : ℕ → Turned → Turn ℕ
-turnOf i r = record { found = keep (r .hit) i []; next = r .next; scan = r .scan; shift = 0; steps = 0 }

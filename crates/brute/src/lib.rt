@@ -1,31 +1,31 @@
 // The engine brute: tests each start left to right; the next start is one on.
+pub mod c;
+mod twice;
+
 use hits::scan::reach_to;
+use hits::work::Turned;
 use hits::work::Work;
 use hits::work::count;
 use hits::work::note;
-use inputs::checks::Text;
 use inputs::checks::checked;
 use inputs::refusal::Answer;
 use inputs::refusal::Check;
 use letters::letter::Letter;
-use pattern::Pattern;
+use letters::strings::Pattern;
+use letters::strings::Text;
 ghost use mathlib.Core.Path.{_≡_};
 ghost use Prim.Native.Nat.{_+_, _-_, _*_, _≤_, _<_};
 ghost use lib.ListN.{length};
-ghost use Rattle.hits.specs.Hits.{hits, over};
-ghost use Rattle.hits.specs.Counts.{workOf};
+ghost use Rattle.letters.specs.Sizes.{Sized};
+ghost use Rattle.hits.specs.Hits.{hits};
+ghost use Rattle.lent.specs.Over.{over};
+ghost use Rattle.hits.specs.Counts.{workOf, turnOf};
 ghost use Rattle.inputs.specs.Answers.{Searched, scanOf};
-ghost use Rattle.brute.specs.Brute.{bruteTurn, bruteRun, turnOf};
-
-struct Turned {
-    hit: bool,
-    next: usize,
-    scan: u64,
-}
+ghost use Rattle.brute.specs.Brute.{bruteTurn, bruteRun};
 
 // A turn at start i.
 fn step(p: &[u32], t: &[u32], i: usize) -> Turned
-    requires { ⌜ (length (now p) ≤ 64) × (i + length (now p) ≤ length (now t)) ⌝ }
+    requires { ⌜ i + length (now p) ≤ length (now t) ⌝ }
     ensures { λ r. ⌜ turnOf i r ≡ bruteTurn (now (p .entry)) (now (t .entry)) i ⌝ }
 {
     let m = p.len();
@@ -34,12 +34,13 @@ fn step(p: &[u32], t: &[u32], i: usize) -> Turned
         hit: j == m,
         next: i + 1,
         scan: j as u64 + count(j < m),
+        shift: 0,
     }
 }
 
 // The run over all starts.
 fn run(p: &[u32], t: &[u32], list: &mut [u32]) -> Work
-    requires { ⌜ (length (now p) ≤ 64) × (length (now t) ≤ 65536) ⌝ }
+    requires { do ⌜ Sized (← ⟦Pattern::MAX_M⟧) (← ⟦Text::MAX_N⟧) (now p) (now t) ⌝ }
     ensures { λ r. ⌜ (r ≡ workOf (hits (now (p .entry)) (now (t .entry))) (bruteRun (now (p .entry)) (now (t .entry)))) × (now (list .exit) ≡ over (hits (now (p .entry)) (now (t .entry))) (now (list .entry))) ⌝ }
 {
     let m = p.len();

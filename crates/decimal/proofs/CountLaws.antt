@@ -2,13 +2,13 @@
 use mathlib.Core.Path.{_≡_, sym, ap, ap₂, _∙_}
 use mathlib.Core.Bool.{Bool, true, false, cond, not, _&&_}
 use mathlib.Core.List.{List, _∷_, _++_}
-use Prim.Native.Nat.{ℕ, suc, _+_, _-_, _≤_, _<_}
-use native.Mathlib.Nat.{pow-le-pow-right}
+use Prim.Native.Nat.{ℕ, suc, _+_, _≤_, _<_}
+use native.Mathlib.Nat.{add-zero, pow-le-pow-right}
 use native.Mathlib.Omega.{arith}
 use borrow.Author.Tests.{eq-eqb, ne-eqb, lt-ltb, le-ltb, ltb-true, ltb-false, eqb-true, eqb-false, not-true}
 use lib.Dec.{eqb, ltb, lit<}
 use lib.ListN.{length, getD, drop, length-drop, List·getD-eq-default}
-use lib.Seq.{getD-append-seam, drop-cons}
+use lib.Seq.{getD-append-seam, getD-drop, drop-cons}
 use Rattle.letters.proofs.Truth.{bool-cases, and-true-l, and-true-r, both-ways}
 use Rattle.decimal.specs.Decimal.{frontDigits, value, decimal}
 use Rattle.decimal.specs.CountLine.{rightCount, countAt}
@@ -21,34 +21,70 @@ module _ (at : ℕ) (s : List ℕ) where
   unfolding countAt
   count-by b e = rw e
 
-  pub count-none : length (frontDigits s) ≡ 0 → countAt at s ≡ Wrong
+  count-none : length (frontDigits s) ≡ 0 → countAt at s ≡ Wrong
   unfolding rightCount
   count-none e = count-by false (rw (eq-eqb (length (frontDigits s)) 0 e))
 
   module _ (n0 : length (frontDigits s) ≡ 0 → ⊥) where
-    pub count-long : 5 < length (frontDigits s) → countAt at s ≡ Wrong
+    count-long : 5 < length (frontDigits s) → countAt at s ≡ Wrong
     unfolding rightCount
     count-long l = count-by false (rw (ne-eqb (length (frontDigits s)) 0 n0, lt-ltb 5 (length (frontDigits s)) l))
 
     module _ (n5 : length (frontDigits s) ≤ 5) where
-      pub count-no-lf : (getD s (length (frontDigits s)) 0 ≡ 10 → ⊥) → countAt at s ≡ Wrong
+      count-no-lf : (getD s (length (frontDigits s)) 0 ≡ 10 → ⊥) → countAt at s ≡ Wrong
       unfolding rightCount
       count-no-lf f = count-by false (rw (ne-eqb (length (frontDigits s)) 0 n0, le-ltb 5 (length (frontDigits s)) n5, ne-eqb (getD s (length (frontDigits s)) 0) 10 f))
 
       module _ (lf : getD s (length (frontDigits s)) 0 ≡ 10) where
-        pub count-zero : 1 < length (frontDigits s) → getD s 0 0 ≡ 48 → countAt at s ≡ Wrong
+        count-zero : 1 < length (frontDigits s) → getD s 0 0 ≡ 48 → countAt at s ≡ Wrong
         unfolding rightCount
         count-zero l z =
             count-by false (rw (ne-eqb (length (frontDigits s)) 0 n0, le-ltb 5 (length (frontDigits s)) n5, eq-eqb (getD s (length (frontDigits s)) 0) 10 lf, lt-ltb 1 (length (frontDigits s)) l, eq-eqb (getD s 0 0) 48 z))
 
-        pub count-one : length (frontDigits s) ≤ 1 → countAt at s ≡ Number (value 0 (frontDigits s)) (suc (at + length (frontDigits s)))
+        count-one : length (frontDigits s) ≤ 1 → countAt at s ≡ Number (value 0 (frontDigits s)) (suc (at + length (frontDigits s)))
         unfolding rightCount
         count-one l = count-by true (rw (ne-eqb (length (frontDigits s)) 0 n0, le-ltb 5 (length (frontDigits s)) n5, eq-eqb (getD s (length (frontDigits s)) 0) 10 lf, le-ltb 1 (length (frontDigits s)) l))
 
-        pub count-some : 1 < length (frontDigits s) → (getD s 0 0 ≡ 48 → ⊥) → countAt at s ≡ Number (value 0 (frontDigits s)) (suc (at + length (frontDigits s)))
+        count-some : 1 < length (frontDigits s) → (getD s 0 0 ≡ 48 → ⊥) → countAt at s ≡ Number (value 0 (frontDigits s)) (suc (at + length (frontDigits s)))
         unfolding rightCount
         count-some l z =
             count-by true (rw (ne-eqb (length (frontDigits s)) 0 n0, le-ltb 5 (length (frontDigits s)) n5, eq-eqb (getD s (length (frontDigits s)) 0) 10 lf, lt-ltb 1 (length (frontDigits s)) l, ne-eqb (getD s 0 0) 48 z))
+
+-- the same for a line of a sheet, where n digits stand at the place from
+module _ (s : List ℕ) (from n : ℕ) (e : n ≡ length (frontDigits (drop from s))) where
+  after : getD (drop from s) (length (frontDigits (drop from s))) 0 ≡ getD s (from + n) 0
+  after = getD-drop from s (length (frontDigits (drop from s))) 0 ∙ ap (λ (x : ℕ). getD s (from + x) 0) (sym e)
+
+  first : getD (drop from s) 0 0 ≡ getD s from 0
+  first = getD-drop from s 0 0 ∙ ap (λ (x : ℕ). getD s x 0) (add-zero from)
+
+  pub line-none : n ≡ 0 → Wrong ≡ countAt from (drop from s)
+  line-none z = sym (count-none from (drop from s) (omega arith))
+
+  module _ (n0 : n ≡ 0 → ⊥) where
+    pub line-long : 5 < n → Wrong ≡ countAt from (drop from s)
+    line-long l = sym (count-long from (drop from s) (λ z. omega arith) (omega arith))
+
+    module _ (n5 : n ≤ 5) where
+      pub line-no-lf : (getD s (from + n) 0 ≡ 10 → ⊥) → Wrong ≡ countAt from (drop from s)
+      line-no-lf f = sym (count-no-lf from (drop from s) (λ z. omega arith) (omega arith) (λ z. f (sym after ∙ z)))
+
+      pub line-short : length s ≤ from + n → Wrong ≡ countAt from (drop from s)
+      line-short l = line-no-lf (λ z. omega (arith, List·getD-eq-default s 0 l))
+
+      module _ (lf : getD s (from + n) 0 ≡ 10) where
+        pub line-zero : 1 < n → getD s from 0 ≡ 48 → Wrong ≡ countAt from (drop from s)
+        line-zero l z = sym (count-zero from (drop from s) (λ z. omega arith) (omega arith) (after ∙ lf) (omega arith) (first ∙ z))
+
+        module _ (v : ℕ) (ev : v ≡ value 0 (frontDigits (drop from s))) where
+          same : Number v (from + n + 1) ≡ Number (value 0 (frontDigits (drop from s))) (suc (from + length (frontDigits (drop from s))))
+          same = ap₂ Number ev (let q : from + n + 1 ≡ suc (from + length (frontDigits (drop from s))) = omega arith in q)
+
+          pub line-one : n ≤ 1 → Number v (from + n + 1) ≡ countAt from (drop from s)
+          line-one l = same ∙ sym (count-one from (drop from s) (λ z. omega arith) (omega arith) (after ∙ lf) (omega arith))
+
+          pub line-some : 1 < n → (getD s from 0 ≡ 48 → ⊥) → Number v (from + n + 1) ≡ countAt from (drop from s)
+          line-some l f = same ∙ sym (count-some from (drop from s) (λ z. omega arith) (omega arith) (after ∙ lf) (omega arith) (λ z. f (sym first ∙ z)))
 
 -- a count line that is right
 pub record Right (at : ℕ) (s : List ℕ) (v e : ℕ) : Type 0 where

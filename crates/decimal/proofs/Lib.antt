@@ -1,4 +1,3 @@
 pub mod FrontLaws
 pub mod DecimalLaws
 pub mod CountLaws
-pub mod StoreLaws

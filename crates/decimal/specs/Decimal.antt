@@ -3,6 +3,7 @@
 --   isDigit b      the byte b is a decimal digit
 --   frontDigits s  the digits in front of s
 --   value v ds     the number that v, and then the digits ds, write
+--   decimalTo f n  the digits of n, f at most
 --   decimal n      the digits of n, with no leading 0 except for 0 itself
 --   ended n b      the digits of n, and the byte b after them
 use Prim.Native.Nat.{ℕ, zero, suc, _+_, _-_, _*_, _/_, _%_}
@@ -21,7 +22,6 @@ unfoldable pub value : ℕ → List ℕ → ℕ
 value v [] = v
 value v (b ∷ ds) = value (v * 10 + (b - 48)) ds
 
--- in f digits at most
 unfoldable pub decimalTo : ℕ → ℕ → List ℕ
 decimalTo zero n = []
 decimalTo (suc f) n = cond (ltb n 10) ((48 + n) ∷ []) (decimalTo f (n / 10) ++ ((48 + n % 10) ∷ []))

@@ -50,7 +50,7 @@ fn value_of(sheet: &[u8], from: usize, n: usize) -> usize
 }
 
 // Reads the count line at a place.
-pub fn read(sheet: &[u8], from: usize) -> Count
+pub fn read_count(sheet: &[u8], from: usize) -> Count
     requires { ⌜ from ≤ length (now sheet) ⌝ }
     ensures { λ r. ⌜ r ≡ countAt from (drop from (now (sheet .entry))) ⌝ }
 {

@@ -1,4 +1,4 @@
--- Laws of hits: of a prefix that meets, by its length, and of the hits among some starts. Assumes nothing.
+-- Laws of hits, and of the hits among some starts. Assumes nothing.
 use mathlib.Core.Path.{_≡_, refl, sym, ap, _∙_}
 use mathlib.Core.Bool.{Bool, true, false, and-false}
 use mathlib.Core.List.{List, [], _++_}
@@ -14,55 +14,11 @@ use Rattle.letters.specs.Letters.{meets}
 use Rattle.letters.specs.Members.{keep}
 use Rattle.letters.proofs.Truth.{and-true-l, and-true-r}
 use Rattle.hits.specs.Hits.{met, hitAt, hitsFrom, hits}
+use Rattle.hits.proofs.MetLaws.{meetsAt, met-fail}
 
--- The family of `met`. There is no law of transitivity: where one is wanted, the letter in the middle is single (`single-same`)
 module _ (P T : List ℕ) (i : ℕ) where
-  -- letter j of P meets the text under it
-  abbrev pub meetsAt : ℕ → Bool
-  meetsAt j = meets (getD P j 0) (getD T (i + j) 0)
-
-  -- nothing to show
-  pub met-none : met P T i 0 ≡ true
-  unfolding met
-  met-none = refl
-
-  -- one letter more
-  pub met-on : (j : ℕ) → met P T i j ≡ true → meetsAt j ≡ true → met P T i (j + 1) ≡ true
-  unfolding met
-  met-on j a b = rw (add-one j, a, b)
-
-  -- each letter
-  pub met-at : (h j : ℕ) → met P T i h ≡ true → j < h → meetsAt j ≡ true
-  unfolding met
-  met-at zero j e l = absurd (not-suc-le-zero l)
-  met-at (suc h) j e l =
-      ⊎-elim
-      (λ (q : j ≡ h). rw q (and-true-r (met P T i h) (meetsAt h) e))
-      (λ (q : j < h). met-at h j (and-true-l (met P T i h) (meetsAt h) e) q)
-      (eq-or-lt-of-le (le-of-suc-le-suc l))
-
-  -- from each letter
-  pub met-all : (h : ℕ) → ((j : ℕ) → j < h → meetsAt j ≡ true) → met P T i h ≡ true
-  unfolding met
-  met-all zero f = refl
-  met-all (suc h) f = rw (met-all h (λ j l. f j (omega arith)), f h (omega arith))
-
-  -- fewer letters
-  pub met-less : (h k : ℕ) → met P T i h ≡ true → k ≤ h → met P T i k ≡ true
-  met-less h k e l = met-all k (λ j m. met-at h j e (omega arith))
-
-  -- one letter that does not meet
-  pub met-fail : (h j : ℕ) → j < h → meetsAt j ≡ false → met P T i h ≡ false
-  unfolding met
-  met-fail zero j l b = absurd (not-suc-le-zero l)
-  met-fail (suc h) j l b =
-      ⊎-elim
-      (λ (e : j ≡ h). rw (← e, b) (and-false (met P T i j)))
-      (λ (k : j < h). rw (met-fail h j k b))
-      (eq-or-lt-of-le (le-of-suc-le-suc l))
-
   -- a start that fits is a hit exactly if all letters meet
-  pub hit-is : i + length P ≤ length T → hitAt P T i ≡ met P T i (length P)
+  pub hit-is : i + length P ≤ length T → hitAt P T i ≡ met P T i 0 (length P)
   unfolding hitAt
   hit-is l = rw (le-leb (i + length P) (length T) l)
 
@@ -70,14 +26,14 @@ module _ (P T : List ℕ) (i : ℕ) where
   unfolding hitAt
   hit-fits e = leb-true _ _ (and-true-l (leb (i + length P) (length T)) _ e)
 
-  pub hit-met : hitAt P T i ≡ true → met P T i (length P) ≡ true
+  pub hit-met : hitAt P T i ≡ true → met P T i 0 (length P) ≡ true
   unfolding hitAt
   hit-met e = and-true-r (leb (i + length P) (length T)) _ e
 
   -- a letter that does not meet: no hit
-  pub no-hit : (j : ℕ) → j < length P → meetsAt j ≡ false → hitAt P T i ≡ false
+  pub no-hit : (j : ℕ) → j < length P → meetsAt P T i j ≡ false → hitAt P T i ≡ false
   unfolding hitAt
-  no-hit j l b = rw (met-fail (length P) j l b) (and-false (leb (i + length P) (length T)))
+  no-hit j l b = rw (met-fail P T i 0 (length P) j (omega arith) (omega arith) b) (and-false (leb (i + length P) (length T)))
 
 module _ (P T : List ℕ) where
   -- no hit starts past n - m

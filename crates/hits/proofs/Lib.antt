@@ -1,6 +1,10 @@
+pub mod MetLaws
 pub mod HitLaws
-pub mod ListLaws
 pub mod ScanLaws
-pub mod Meaning
+pub mod SingleLaws
+pub mod BackLaws
+pub mod SureLaws
+pub mod ListLaws
 pub mod RunLaws
 pub mod LoopLaws
+pub mod Meaning

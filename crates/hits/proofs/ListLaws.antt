@@ -2,28 +2,15 @@
 use mathlib.Core.Path.{_≡_, refl, sym, ap, _∙_}
 use mathlib.Core.Bool.{Bool, true, false}
 use mathlib.Core.List.{List, [], _∷_, _++_, append-nil, append-assoc}
-use Prim.Native.Nat.{ℕ, suc, _+_}
+use Prim.Native.Nat.{ℕ, suc, _+_, _≤_}
 use native.Mathlib.Omega.{arith}
 use native.Mathlib.Nat.{add-zero}
 use native.Mathlib.Numerals.{add-one}
 use lib.ListN.{length, set, length-append, length-set}
 use Rattle.letters.specs.Members.{keep}
-use Rattle.hits.specs.Hits.{over}
+use Rattle.lent.specs.Over.{over}
+use Rattle.lent.proofs.OverLaws.{over-snoc}
 use Rattle.hits.specs.Counts.{tally, noted, notedAll}
-
--- one element more
-pub over-snoc : (xs : List ℕ) (x : ℕ) (d : List ℕ) → over (xs ++ (x ∷ [])) d ≡ set (over xs d) (length xs) x
-unfolding over
-over-snoc [] x [] = refl
-over-snoc [] x (y ∷ d) = refl
-over-snoc (z ∷ xs) x [] = refl
-over-snoc (z ∷ xs) x (y ∷ d) = rw (over-snoc xs x d)
-
-pub length-over : (xs d : List ℕ) → length (over xs d) ≡ length d
-unfolding over
-length-over [] d = refl
-length-over (z ∷ xs) [] = refl
-length-over (z ∷ xs) (y ∷ d) = ap suc (length-over xs d)
 
 -- noting hits one after the other writes them over the list's front
 pub noted-over : (xs past d : List ℕ) → notedAll xs (over past d) (length past) ≡ over (past ++ xs) d
@@ -43,6 +30,10 @@ noted-keep false i d total = refl
 pub tally-keep : (b : Bool) (i : ℕ) → tally b ≡ length (keep b i [])
 tally-keep true i = refl
 tally-keep false i = refl
+
+pub tally-le : (b : Bool) → tally b ≤ 1
+tally-le true = omega arith
+tally-le false = omega arith
 
 pub length-noted : (xs d : List ℕ) (total : ℕ) → length (notedAll xs d total) ≡ length d
 unfolding notedAll

@@ -2,15 +2,19 @@
 use mathlib.Core.Path.{_≡_, refl, sym, ap, _∙_}
 use mathlib.Core.Bool.{Bool, true, false}
 use mathlib.Core.List.{List, [], _++_, append-assoc, append-nil}
-use Prim.Native.Nat.{ℕ, suc, _+_, _≤_}
+use Prim.Native.Nat.{ℕ, suc, _+_, _≤_, _<_}
+use borrow.Author.Tests.{le-leb, lt-leb}
 use native.Mathlib.Omega.{arith}
 use lib.ListN.{length, length-append}
 use Rattle.letters.specs.Members.{keep}
-use Rattle.hits.specs.Hits.{hits, over}
+use Rattle.hits.specs.Hits.{within, hits}
+use Rattle.lent.specs.Over.{over}
 use Rattle.hits.specs.Turns.{Turn, Run, after, run}
-use Rattle.hits.specs.Counts.{tally, noted, notedAll, workOf}
+use Rattle.hits.specs.Counts.{tally, noted, notedAll, workOf, turnOf}
 use Rattle.hits.specs.declared.work.Work.{Work}
-use Rattle.hits.proofs.ListLaws.{length-over, noted-over, noted-keep, tally-keep}
+use Rattle.hits.specs.declared.work.Turned.{Turned}
+use Rattle.hits.proofs.ListLaws.{noted-over, noted-keep, tally-keep}
+use Rattle.lent.proofs.OverLaws.{length-over}
 use Rattle.hits.proofs.RunLaws.{Sound, run-stop, run-turn, finds-all, total-small}
 
 -- the loop of a sound engine with the list d lent: at the state s it has written `past` over d and counted w, and the run from s does the rest
@@ -120,3 +124,73 @@ module _ {S : Type 0} {P T : List ℕ} {more : S → Bool} {turn : S → Turn S}
           same : w .total ≡ length (hits P T) → w .scan ≡ run more turn F s₀ .scan → w .shift ≡ run more turn F s₀ .shift → w .steps ≡ run more turn F s₀ .steps
               → w ≡ workOf (hits P T) (run more turn F s₀)
           same a b c f = rw (← a, ← b, ← c, ← f)
+
+-- The loop of an engine whose state is the start alone: it stands at start i, with m and n in hand
+pub record Standing {P T : List ℕ} {turn : ℕ → Turn ℕ} (e : Sound P T (within P T) turn (suc (length T)) 0) (d : List ℕ) (m n i : ℕ) (list : List ℕ) (w : Work) : Type 0 where
+  pub pattern : m ≡ length P
+  pub text : n ≡ length T
+  pub top : i ≤ n + 1
+  pub so-far : SoFar e d i list w
+
+module _ {P T : List ℕ} {turn : ℕ → Turn ℕ} (e : Sound P T (within P T) turn (suc (length T)) 0) (d : List ℕ) where
+  pub stand : Standing e d (length P) (length T) 0 d (record { total = 0; scan = 0; shift = 0; steps = 0 })
+  stand = record { pattern = refl; text = refl; top = omega arith; so-far = start e d }
+
+  module _ (m n i : ℕ) (list : List ℕ) (w : Work) (h : Standing e d m n i list w) where
+    pub same-room : length list ≡ length d
+    same-room = kept e d i list w (h .so-far)
+
+    pub few : w .total ≤ suc (length T)
+    few = total-le e d i list w (h .so-far)
+
+    -- a pass of the loop
+    module _ (l : i + m ≤ n) where
+      goes : within P T i ≡ true
+      goes = le-leb (i + length P) (length T) (omega (arith, h .pattern, h .text))
+
+      pub scan-rises : w .scan + turn i .scan ≤ run (within P T) turn (suc (length T)) 0 .scan
+      scan-rises = next-scan-le e d i list w (h .so-far) goes
+
+      pub steps-rise : w .steps + turn i .steps ≤ run (within P T) turn (suc (length T)) 0 .steps
+      steps-rise = next-steps-le e d i list w (h .so-far) goes
+
+      -- the hits of the turn are noted, its work is added, and the loop stands at the next start
+      pub move-all : (i′ : ℕ) (list′ : List ℕ) (w′ : Work) → i′ ≤ n + 1
+          → i′ ≡ turn i .next → list′ ≡ notedAll (turn i .found) list (w .total) → w′ .total ≡ w .total + length (turn i .found)
+          → w′ .scan ≡ w .scan + turn i .scan → w′ .shift ≡ w .shift + turn i .shift → w′ .steps ≡ w .steps + turn i .steps
+          → Standing e d m n i′ list′ w′
+      move-all i′ list′ w′ u ei el et sc sh st =
+          record { pattern = h .pattern; text = h .text; top = u; so-far = pass e d i list w (h .so-far) goes i′ list′ w′ ei el et sc sh st }
+
+      -- where what the step answered is the turn, with one hit at most
+      module _ (r : Turned) (q : turnOf i r ≡ turn i) where
+        pub scan-fits : w .scan + r .scan ≤ run (within P T) turn (suc (length T)) 0 .scan
+        scan-fits = rw (ap (λ (x : Turn ℕ). x .scan) q) scan-rises
+
+        pub shift-fits : w .shift + r .shift ≤ run (within P T) turn (suc (length T)) 0 .shift
+        shift-fits = rw (ap (λ (x : Turn ℕ). x .shift) q) (next-shift-le e d i list w (h .so-far) goes)
+
+        pub move : (list′ : List ℕ) (w′ : Work) → r .next ≤ n + 1 → list′ ≡ noted (r .hit) list (w .total) i → w′ .total ≡ w .total + tally (r .hit)
+            → w′ .scan ≡ w .scan + r .scan → w′ .shift ≡ w .shift + r .shift → w′ .steps ≡ w .steps
+            → Standing e d m n (r .next) list′ w′
+        move list′ w′ u el et sc sh st =
+            record {
+              pattern = h .pattern;
+              text = h .text;
+              top = u;
+              so-far =
+                  pass-one e d i list w (h .so-far) goes (r .next) list′ w′ (r .hit) i
+                  (ap (λ (x : Turn ℕ). x .next) q)
+                  (sym (ap (λ (x : Turn ℕ). x .found) q))
+                  el
+                  et
+                  (sc ∙ ap (λ (x : Turn ℕ). w .scan + x .scan) q)
+                  (sh ∙ ap (λ (x : Turn ℕ). w .shift + x .shift) q)
+                  (let z = ap (λ (x : Turn ℕ). x .steps) q in omega arith);
+            }
+
+    -- past the last start it is all
+    pub all-done : n < i + m → (w ≡ workOf (hits P T) (run (within P T) turn (suc (length T)) 0)) × (list ≡ over (hits P T) d)
+    all-done l =
+        let z = lt-leb (i + length P) (length T) (omega (arith, h .pattern, h .text)) in
+        (end-work e d i list w (h .so-far) z, end-list e d i list w (h .so-far) z)

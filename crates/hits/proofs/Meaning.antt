@@ -12,7 +12,8 @@ use Rattle.letters.proofs.Truth.{both-ways}
 use Rattle.letters.proofs.LetterLaws.{meets-some, some-meets, member-digit, digit-member}
 use Rattle.hits.specs.Hits.{hitAt, hitsFrom, hits}
 use Rattle.hits.specs.Meaning.{Hit, Listed, Ascends}
-use Rattle.hits.proofs.HitLaws.{met-at, met-all, hit-is, hit-fits, hit-met}
+use Rattle.hits.proofs.HitLaws.{hit-is, hit-fits, hit-met}
+use Rattle.hits.proofs.MetLaws.{met-at, met-all}
 
 module _ (P T : List ℕ) where
   -- the test is the meaning
@@ -21,16 +22,16 @@ module _ (P T : List ℕ) where
       record {
         fits = hit-fits P T i e;
         share = λ j l.
-            let w = meets-some (getD P j 0) (getD T (i + j) 0) (met-at P T i (length P) j (hit-met P T i e) l) in
+            let w = meets-some (getD P j 0) (getD T (i + j) 0) (met-at P T i 0 (length P) j (hit-met P T i e) (omega arith) (omega arith)) in
             (w .0, (member-digit (w .0) (getD P j 0) (w .1), member-digit (w .0) (getD T (i + j) 0) (w .2)));
       }
 
   pub hit-test : (i : ℕ) → Hit P T i → hitAt P T i ≡ true
   hit-test i h =
       hit-is P T i (h .fits)
-      ∙ met-all P T i (length P)
-      (λ j l.
-      let w = h .share j l in
+      ∙ met-all P T i 0 (length P)
+      (λ j z u.
+      let w = h .share j (omega arith) in
       some-meets (getD P j 0) (getD T (i + j) 0) (w .0) (digit-member (w .0) (getD P j 0) (w .1 .0)) (digit-member (w .0) (getD T (i + j) 0) (w .1 .1)))
 
   listed-keep : (b : Bool) (i a : ℕ) (xs : List ℕ) → Listed i (keep b a xs) → ((b ≡ true) × (i ≡ a)) ⊎ Listed i xs

@@ -7,6 +7,7 @@ use native.Mathlib.Nat.{mul-le-mul-left, mul-le-mul-right}
 use native.Mathlib.Omega.{arith}
 use borrow.Author.Tests.{leb-true, leb-false, lt-leb}
 use lib.ListN.{length}
+use Rattle.letters.specs.Sizes.{Sized}
 use Rattle.letters.proofs.Truth.{bool-cases, both-ways}
 use Rattle.hits.specs.Hits.{within, hitsFrom, hits}
 use Rattle.hits.specs.Turns.{Turn, Run, idle, after, run}
@@ -68,7 +69,7 @@ module _ {S : Type 0} {P T : List ℕ} {more : S → Bool} {turn : S → Turn S}
   total-small = rw finds-all (length-hits P T)
 
   -- how many turns a run is allowed does not matter, if they are enough
-  run-enough : (f g : ℕ) (s : S) → e .ok s → e .left s ≤ f → e .left s ≤ g → run more turn f s ≡ run more turn g s
+  pub run-enough : (f g : ℕ) (s : S) → e .ok s → e .left s ≤ f → e .left s ≤ g → run more turn f s ≡ run more turn g s
   run-enough zero g s o h k = run-stop more turn zero s (stuck s o h) ∙ sym (run-stop more turn g s (stuck s o h))
   run-enough (suc f) zero s o h k = run-stop more turn (suc f) s (stuck s o k) ∙ sym (run-stop more turn zero s (stuck s o k))
   run-enough (suc f) (suc g) s o h k =
@@ -135,15 +136,15 @@ module _ {P T : List ℕ} {turn : ℕ → Turn ℕ} (passing : Passing P T turn)
 pub no-start : (P T : List ℕ) (turn : ℕ → Turn ℕ) (f : ℕ) → length T < length P → run (within P T) turn f 0 ≡ idle
 no-start P T turn f l = run-stop (within P T) turn f 0 (lt-leb (0 + length P) (length T) (omega arith))
 
--- such a count is small within the limits
-pub per-start-small : (M N m n x : ℕ) → x ≤ m * (n + 1 - m) → m ≤ M → n ≤ N → x ≤ M * (N + 1)
-per-start-small M N m n x b h k =
-    let a : n + 1 - m ≤ N + 1 = omega arith in
-    omega (arith, mul-le-mul-right (n + 1 - m) h, mul-le-mul-left M a)
+-- Within the limits such a count is small,
+pub start-small : {M N : ℕ} {P T : List ℕ} → Sized M N P T → (x : ℕ) → x ≤ length P * (length T + 1 - length P) → x ≤ M * (N + 1)
+start-small {M} {N} {P} {T} s x b =
+    let a : length T + 1 - length P ≤ N + 1 = omega (arith, s .small) in
+    omega (arith, mul-le-mul-right (length T + 1 - length P) (s .pattern .short), mul-le-mul-left M a)
 
--- so is a count of at most m - 1 for each start but one
-pub per-shift-small : (M N m n x : ℕ) → x ≤ (n - m) * (m - 1) → m ≤ M → n ≤ N → x ≤ N * M
-per-shift-small M N m n x c h k =
-    let a : n - m ≤ N = omega arith in
-    let b : m - 1 ≤ M = omega arith in
-    omega (arith, mul-le-mul-right (m - 1) a, mul-le-mul-left N b)
+-- and so is one of at most m - 1 for each start but one
+pub shift-small : {M N : ℕ} {P T : List ℕ} → Sized M N P T → (x : ℕ) → x ≤ (length T - length P) * (length P - 1) → x ≤ N * M
+shift-small {M} {N} {P} {T} s x c =
+    let a : length T - length P ≤ N = omega (arith, s .small) in
+    let b : length P - 1 ≤ M = omega (arith, s .pattern .short) in
+    omega (arith, mul-le-mul-right (length P - 1) a, mul-le-mul-left N b)

@@ -7,14 +7,15 @@ use Prim.Native.Nat.{ℕ, zero, suc, _+_, _-_, _≤_, _<_, zero-le}
 use native.Mathlib.Nat.{eq-or-lt-of-le}
 use native.Mathlib.Numerals.{add-one}
 use native.Mathlib.Omega.{arith}
-use borrow.Author.Tests.{le-ltb, lt-ltb, eqb-true, eqb-false}
-use lib.Dec.{ltb, eqb}
+use borrow.Author.Tests.{le-leb, lt-leb, le-ltb, lt-ltb, eqb-true, eqb-false}
+use lib.Dec.{leb, ltb, eqb}
 use lib.ListN.{length}
 use Rattle.letters.proofs.Truth.{bool-cases}
 use Rattle.hits.specs.Hits.{met, hitAt}
 use Rattle.hits.specs.Scans.{reach, tests}
 use Rattle.hits.specs.Counts.{tally}
-use Rattle.hits.proofs.HitLaws.{meetsAt, met-none, met-on, hit-is, no-hit}
+use Rattle.hits.proofs.HitLaws.{hit-is, no-hit}
+use Rattle.hits.proofs.MetLaws.{meetsAt, met-none, met-on}
 
 module _ (P T : List ℕ) (i : ℕ) where
   abbrev at : ℕ → Bool
@@ -31,7 +32,7 @@ module _ (P T : List ℕ) (i : ℕ) where
   reach-le a (suc f) = bool-cases (at a) (λ e. rw e (omega (arith, reach-le (suc a) f))) (λ e. rw e (omega arith))
 
   -- what a scan reaches meets, if what stands before it does
-  pub reach-met : (r f : ℕ) → met P T i r ≡ true → met P T i (reach P T i r f) ≡ true
+  pub reach-met : (r f : ℕ) → met P T i 0 r ≡ true → met P T i 0 (reach P T i r f) ≡ true
   unfolding reach
   reach-met r zero a = a
   reach-met r (suc f) a =
@@ -59,6 +60,17 @@ module _ (P T : List ℕ) (i : ℕ) where
   tests-le a zero = zero-le
   tests-le a (suc f) = bool-cases (at a) (λ e. rw e (omega (arith, tests-le (suc a) f))) (λ e. rw e (omega arith))
 
+  -- a shorter stretch meets exactly if the scan reaches its end
+  pub met-reach : (a c d : ℕ) → c ≤ d → met P T i a c ≡ leb (a + c) (reach P T i a d)
+  unfolding met reach
+  met-reach a zero d l = sym (le-leb (a + 0) (reach P T i a d) (omega (arith, reach-ge a d)))
+  met-reach a (suc c) zero l = absurd (omega arith)
+  met-reach a (suc c) (suc d) l =
+      let z : a + suc c ≡ suc a + c = omega arith in
+      bool-cases (at a)
+      (λ e. rw (e, z) (met-reach (suc a) c d (omega arith)))
+      (λ e. rw e (sym (lt-leb (a + suc c) a (omega arith))))
+
 -- a scan to b, by the letter j that it has come to
 module _ (P T : List ℕ) (i b j : ℕ) where
   abbrev here : Bool
@@ -77,7 +89,7 @@ module _ (P T : List ℕ) (i b j : ℕ) where
   reach-end l = let z : b - j ≡ 0 = omega arith in rw z
 
 -- a start is a hit exactly if a scan reaches the pattern's end, from any letters that meet already
-pub reach-hit : (P T : List ℕ) (i r : ℕ) → i + length P ≤ length T → r ≤ length P → met P T i r ≡ true
+pub reach-hit : (P T : List ℕ) (i r : ℕ) → i + length P ≤ length T → r ≤ length P → met P T i 0 r ≡ true
     → eqb (reach P T i r (length P - r)) (length P) ≡ hitAt P T i
 reach-hit P T i r l k a =
     let z : r + (length P - r) ≡ length P = omega arith in
@@ -94,7 +106,7 @@ reach-hit P T i r l k a =
 
 -- the same for a whole scan, as brute and Sunday make it
 pub scan-hit : (P T : List ℕ) (i : ℕ) → i + length P ≤ length T → eqb (reach P T i 0 (length P)) (length P) ≡ hitAt P T i
-scan-hit P T i l = let z : length P - 0 ≡ length P = omega arith in rw z at (reach-hit P T i 0 l (omega arith) (met-none P T i))
+scan-hit P T i l = let z : length P - 0 ≡ length P = omega arith in rw z at (reach-hit P T i 0 l (omega arith) (met-none P T i 0))
 
 -- and its tests, from how far it went
 pub scan-tests : (P T : List ℕ) (i j : ℕ) → j ≡ reach P T i 0 (length P) → tests P T i 0 (length P) ≡ j + tally (ltb j (length P))
@@ -102,3 +114,12 @@ scan-tests P T i j e =
     let z : 0 + length P ≡ length P = omega arith in
     let w = rw (z, ← e) at (tests-reach P T i 0 (length P)) in
     omega arith
+
+-- both from what `reach_to` answers, with c for the letter that stopped it
+pub whole-scan : (P T : List ℕ) (i j c : ℕ) → j ≡ reach P T i 0 (length P - 0) → c ≡ tally (ltb j (length P))
+    → (j ≡ reach P T i 0 (length P)) × (j + c ≡ tests P T i 0 (length P)) × (j + c ≤ length P)
+whole-scan P T i j c e f =
+    let z : length P - 0 ≡ length P = omega arith in
+    let q : j ≡ reach P T i 0 (length P) = rw z at e in
+    let w : j + c ≡ tests P T i 0 (length P) = omega (arith, scan-tests P T i j q) in
+    (q, w, omega (arith, tests-le P T i 0 (length P)))

@@ -1,11 +1,10 @@
--- Which starts are hits, the list of all hits, and what a lent list holds after it was written there.
+-- Which starts are hits, and the list of all hits.
 --
---   met P T i h        the first h letters of P meet T from i on
+--   met P T i a c      P standing at start i: its c letters from a on meet the text
 --   within P T i       start i is at most n - m
 --   hitAt P T i        start i is a hit
 --   hitsFrom P T c a   the hits among the c starts from a on, ascending
 --   hits P T           all hits, ascending
---   over xs d          xs written over the front of d, as far as d reaches; the rest of d as it was
 --
 -- A letter that is not there is read as 0, which meets nothing.
 use Prim.Native.Nat.{ℕ, zero, suc, _+_}
@@ -16,15 +15,15 @@ use lib.ListN.{length, getD}
 use Rattle.letters.specs.Letters.{meets}
 use Rattle.letters.specs.Members.{keep}
 
-unfoldable pub met : List ℕ → List ℕ → ℕ → ℕ → Bool
-met P T i zero = true
-met P T i (suc h) = met P T i h && meets (getD P h 0) (getD T (i + h) 0)
+unfoldable pub met : List ℕ → List ℕ → ℕ → ℕ → ℕ → Bool
+met P T i a zero = true
+met P T i a (suc c) = meets (getD P a 0) (getD T (i + a) 0) && met P T i (suc a) c
 
 abbrev pub within : List ℕ → List ℕ → ℕ → Bool
 within P T i = leb (i + length P) (length T)
 
 unfoldable pub hitAt : List ℕ → List ℕ → ℕ → Bool
-hitAt P T i = within P T i && met P T i (length P)
+hitAt P T i = within P T i && met P T i 0 (length P)
 
 unfoldable pub hitsFrom : List ℕ → List ℕ → ℕ → ℕ → List ℕ
 hitsFrom P T zero a = []
@@ -32,8 +31,3 @@ hitsFrom P T (suc c) a = keep (hitAt P T a) a (hitsFrom P T c (suc a))
 
 unfoldable pub hits : List ℕ → List ℕ → List ℕ
 hits P T = hitsFrom P T (suc (length T)) 0
-
-unfoldable pub over : List ℕ → List ℕ → List ℕ
-over [] d = d
-over (x ∷ xs) [] = []
-over (x ∷ xs) (y ∷ d) = x ∷ over xs d

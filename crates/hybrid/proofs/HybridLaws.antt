@@ -14,13 +14,13 @@ use Rattle.letters.proofs.Truth.{bool-cases}
 use Rattle.hits.specs.Hits.{within, hits, hitsFrom}
 use Rattle.hits.specs.Turns.{Turn, Run, idle}
 use Rattle.hits.proofs.HitLaws.{no-hit, none-from}
-use Rattle.hits.proofs.RunLaws.{Sound, finds-all, bounded, Passing, by-start, per-start, no-start}
+use Rattle.hits.proofs.RunLaws.{Sound, finds-all, bounded, Passing, by-start, no-start}
 use Rattle.word.proofs.WordLaws.{zero-means}
 use Rattle.hybrid.specs.Stretches.{stretch}
 use Rattle.sunday.specs.Sunday.{nextStart}
 use Rattle.sunday.proofs.SundayLaws.{next-gt, next-le, next-passes}
 use Rattle.hybrid.specs.Hybrid.{stretched, shifted, hybridTurn, hybridRun}
-use Rattle.hybrid.proofs.StretchLaws.{waiting, Fine, fine, some-step}
+use Rattle.hybrid.proofs.StretchLaws.{waiting, fine, some-step}
 
 module _ (P T : List ℕ) where
   -- the test of the last letter at start a
@@ -44,40 +44,32 @@ module _ (P T : List ℕ) where
         none-from P T (nextStart P T a - a) a
         (λ i u v. ⊎-elim (λ (q : a ≡ i). rw (← q) (no-hit P T a (length P - 1) (omega arith) f)) (λ (q : a < i). next-passes P T a l i q (omega (arith, next-gt P T a l))) (eq-or-lt-of-le u))
 
-  module _ (p : 0 < length P) where
-    -- the word steps from a start that fits
-    pub steps-fine : (a : ℕ) → a + length P ≤ length T → Fine P T a a (stretch P T (length T - a) a 0)
-    steps-fine a l = fine P T a p (length T - a) a 0 (omega arith) (omega arith) (zero-means P T a)
+  -- what a turn at start a does: it goes on, at most to one past the text, and finds the hits that it passes; it makes one scan test, no shift test, and at most a word step for each position that it moves on
+  pub record Turning (a : ℕ) (t : Turn ℕ) : Type 0 where
+    pub on : a < t .next
+    pub near : t .next ≤ length T + 1
+    pub finds : t .found ≡ hitsFrom P T (t .next - a) a
+    pub tested : t .scan ≡ 1
+    pub untried : t .shift ≡ 0
+    pub pays : t .steps + (length T - t .next) ≤ length T - a
 
-    pub steps-ahead : (a : ℕ) → a + length P ≤ length T → a < stretch P T (length T - a) a 0 .next
-    steps-ahead a l =
-        let w = steps-fine a l .ahead in
-        omega (arith, some-step P T (length T - a) a 0 (omega arith))
+  module _ (p : 0 < length P) where
+    pub turning : (a : ℕ) → a + length P ≤ length T → Turning a (hybridTurn P T a)
+    turning a l =
+        bool-cases (last-meets a)
+        (λ y. let w = fine P T a p (length T - a) a 0 (omega arith) (omega arith) (zero-means P T a) in
+        let s = some-step P T (length T - a) a 0 (omega arith) in
+        let z : waiting P a a ≡ a = omega arith in
+        rw (turn-yes a y)
+        (record { on = omega (arith, w .ahead); near = omega (arith, w .within); finds = rw z at (w .finds); tested = refl; untried = refl; pays = omega (arith, w .ahead, w .within) }))
+        (λ n. let g = next-gt P T a l in
+        rw (turn-no a n) (record { on = g; near = next-le P T a l; finds = sym (shift-right a l p n); tested = refl; untried = refl; pays = omega arith }))
 
     -- each turn settles the starts that it passes
     pub passing : Passing P T (hybridTurn P T)
     passing a l =
-        bool-cases (last-meets a)
-        (λ y. let w = steps-fine a l in
-        let k = steps-ahead a l in
-        let z : waiting P a a ≡ a = omega arith in
-        rw (turn-yes a y)
-        (record {
-          falls = omega arith;
-          still = tt;
-          gap = stretch P T (length T - a) a 0 .next - a;
-          moved = omega arith;
-          right = rw z at (w .finds);
-        }))
-        (λ n. let k = next-gt P T a l in
-        rw (turn-no a n)
-        (record {
-          falls = omega arith;
-          still = tt;
-          gap = nextStart P T a - a;
-          moved = omega arith;
-          right = sym (shift-right a l p n);
-        }))
+        let w = turning a l in
+        record { falls = omega arith; still = tt; gap = hybridTurn P T a .next - a; moved = omega arith; right = w .finds }
 
     unfoldable pub sound : Sound P T (within P T) (hybridTurn P T) (suc (length T)) 0
     sound = by-start passing
@@ -87,41 +79,23 @@ module _ (P T : List ℕ) where
     unfolding hybridRun
     hybrid-finds = finds-all sound
 
-    one-test : (a : ℕ) → hybridTurn P T a .scan ≡ 1
-    one-test a = bool-cases (last-meets a) (λ y. rw (turn-yes a y)) (λ n. rw (turn-no a n))
-
-    pub no-shift : (a : ℕ) → hybridTurn P T a .shift ≡ 0
-    no-shift a = bool-cases (last-meets a) (λ y. rw (turn-yes a y)) (λ n. rw (turn-no a n))
-
-    -- a step for each position that a turn moves on, if it takes any
-    turn-pays : (a : ℕ) → a + length P ≤ length T → hybridTurn P T a .steps + (length T - hybridTurn P T a .next) ≤ length T - a
-    turn-pays a l =
-        bool-cases (last-meets a)
-        (λ y. let w = steps-fine a l in rw (turn-yes a y) (omega (arith, w .ahead, w .within)))
-        (λ n. rw (turn-no a n) (omega (arith, next-gt P T a l)))
-
-    -- the next start is ahead, and at most one past the text
-    pub goes-on : (a : ℕ) → a + length P ≤ length T → a < hybridTurn P T a .next
-    goes-on a l = bool-cases (last-meets a) (λ y. rw (turn-yes a y) (steps-ahead a l)) (λ n. rw (turn-no a n) (next-gt P T a l))
-
-    pub stays-near : (a : ℕ) → a + length P ≤ length T → hybridTurn P T a .next ≤ length T + 1
-    stays-near a l =
-        bool-cases (last-meets a)
-        (λ y. let w = steps-fine a l .within in rw (turn-yes a y) (omega arith))
-        (λ n. rw (turn-no a n) (next-le P T a l))
-
     -- scan tests: at most n - m + 1
     pub hybrid-scan : hybridRun P T .scan ≤ length T + 1 - length P
-    unfolding hybridRun
+    unfolding hybridRun sound by-start
     hybrid-scan =
-        let h = per-start passing (λ (r : Run). r .scan) (λ (t : Turn ℕ). t .scan) refl (λ t r. refl) 1 (λ i. omega (arith, one-test i)) in
+        let h = bounded sound (λ (r : Run). r .scan) (λ (t : Turn ℕ). t .scan) refl (λ t r. refl) (λ (i : ℕ). length T + 1 - (i + length P))
+        (λ i o y.
+        let l : i + length P ≤ length T = leb-true _ _ y in
+        let w = turning i l in
+        omega arith)
+        in
         omega arith
 
     -- word steps: at most n
     pub hybrid-steps : hybridRun P T .steps ≤ length T
     unfolding hybridRun sound by-start
     hybrid-steps =
-        let h = bounded sound (λ (r : Run). r .steps) (λ (t : Turn ℕ). t .steps) refl (λ t r. refl) (λ (i : ℕ). length T - i) (λ i o y. turn-pays i (leb-true _ _ y)) in
+        let h = bounded sound (λ (r : Run). r .steps) (λ (t : Turn ℕ). t .steps) refl (λ t r. refl) (λ (i : ℕ). length T - i) (λ i o y. turning i (leb-true _ _ y) .pays) in
         omega arith
 
   -- no work where the pattern is longer than the text

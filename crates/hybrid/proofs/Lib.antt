@@ -1,4 +1,3 @@
 pub mod StretchLaws
 pub mod StretchLoop
 pub mod HybridLaws
-pub mod Examples

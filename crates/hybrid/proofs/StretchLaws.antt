@@ -13,7 +13,7 @@ use Rattle.hits.proofs.HitLaws.{none-from, past-from}
 use Rattle.word.specs.State.{Means}
 use Rattle.word.specs.Word.{stepped}
 use Rattle.word.proofs.WordLaws.{digits, stepped-means, top-hit, zero-dead}
-use Rattle.hybrid.specs.Stretches.{Stretch, ended, stepTo, stretch}
+use Rattle.hybrid.specs.Stretches.{Stretch, noStep, stepTo, stretch}
 
 -- where the state was cleared at a and read to before e: the first start from a on that no letter read could have completed
 abbrev pub waiting : List ℕ → ℕ → ℕ → ℕ
@@ -27,7 +27,7 @@ pub record Fine (P T : List ℕ) (a e : ℕ) (r : Stretch) : Type 0 where
 
 module _ (P T : List ℕ) (a : ℕ) (p : 0 < length P) where
   -- at the end of the text no start is left that fits
-  fine-end : a ≤ length T → Fine P T a (length T) (ended (length T))
+  fine-end : a ≤ length T → Fine P T a (length T) (noStep (length T))
   fine-end l =
       record {
         ahead = omega arith;
@@ -36,7 +36,7 @@ module _ (P T : List ℕ) (a : ℕ) (p : 0 < length P) where
       }
 
   -- at a state of 0 no start is alive
-  fine-dead : (e : ℕ) → e ≤ length T → Means P T a e (digits 0) → Fine P T a e (ended e)
+  fine-dead : (e : ℕ) → e ≤ length T → Means P T a e (digits 0) → Fine P T a e (noStep e)
   fine-dead e l m =
       record {
         ahead = omega arith;
@@ -73,7 +73,7 @@ module _ (P T : List ℕ) (a : ℕ) (p : 0 < length P) where
   fine (suc f) e w l z m =
       let next = stepped P (getD T e 0) w in
       let n = stepped-means P T a e w m l in
-      fine-step e next (cond (eqb next 0) (ended (e + 1)) (stretch P T f (e + 1) next)) l (omega arith) n
+      fine-step e next (cond (eqb next 0) (noStep (e + 1)) (stretch P T f (e + 1) next)) l (omega arith) n
       (bool-cases (eqb next 0)
       (λ y. let h : next ≡ 0 = eqb-true _ _ y in rw y (fine-dead (e + 1) (omega arith) (rw h at n)))
       (λ q. rw q (fine f (e + 1) next (omega arith) (omega arith) n)))

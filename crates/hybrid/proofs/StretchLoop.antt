@@ -1,22 +1,20 @@
 -- What the loop of word steps keeps, and the laws that answer its needs. Assumes nothing.
 use mathlib.Core.Path.{_≡_, refl, sym, ap, _∙_}
 use mathlib.Core.Bool.{Bool, true, false, cond}
-use mathlib.Core.List.{List, [], _++_, append-assoc, append-nil}
+use mathlib.Core.List.{List, []}
 use Prim.Native.Nat.{ℕ, suc, _+_, _-_, _≤_, _<_}
+use native.Mathlib.Nat.{add-zero}
+use native.Mathlib.Numerals.{add-one}
 use native.Mathlib.Omega.{arith}
 use borrow.Author.Tests.{eq-eqb, ne-eqb}
 use lib.Dec.{eqb}
-use lib.ListN.{length, getD, length-append}
+use lib.ListN.{length, getD}
 use Rattle.letters.specs.Members.{keep}
 use Rattle.hits.specs.Counts.{tally, noted, notedAll}
-use Rattle.hits.proofs.ListLaws.{noted-keep, tally-keep, length-noted, noted-append}
-use Rattle.word.specs.State.{Means}
+use Rattle.hits.proofs.ListLaws.{noted-keep, tally-le, length-noted}
 use Rattle.word.specs.Word.{stepped, isSet}
-use Rattle.word.proofs.WordLaws.{digits, zero-means, stepped-means}
-use Rattle.hybrid.specs.Stretches.{Stretch, ended, stepTo, stretch}
-use Rattle.hybrid.specs.Hybrid.{stretched, Turns}
-use Rattle.hybrid.specs.declared.Turned.{Turned}
-use Rattle.hybrid.proofs.StretchLaws.{fine}
+use Rattle.hybrid.specs.Stretches.{Stretch, noStep, stepTo, stretch}
+use Rattle.hybrid.specs.Hybrid.{stretched, HybridTurns}
 
 -- the steps that are left from the letter at e on, with the state w
 abbrev pub ahead : List ℕ → List ℕ → ℕ → ℕ → Stretch
@@ -24,102 +22,85 @@ ahead P T e w = stretch P T (length T - e) e w
 
 -- and those after a step that came to e and left the state w: none where it is 0
 abbrev pub behind : List ℕ → List ℕ → ℕ → ℕ → Stretch
-behind P T e w = cond (eqb w 0) (ended e) (ahead P T e w)
+behind P T e w = cond (eqb w 0) (noStep e) (ahead P T e w)
 
--- the loop from a, with the list d lent and `total` hits noted before: at e the state w means what it should, `past` is noted, and r does the rest
-pub record Kept (P T : List ℕ) (a : ℕ) (d : List ℕ) (total e w : ℕ) (r : Stretch) (list : List ℕ) (count : ℕ) : Type 0 where
-  pub means : Means P T a e (digits w)
-  pub past : List ℕ
-  pub lists : list ≡ notedAll past d total
-  pub counts : count ≡ total + length past
-  pub few : length past ≤ e - a
-  pub founds : ahead P T a 0 .found ≡ past ++ r .found
+-- the loop from a, with the list d lent and `total` hits noted before: at e, what it has noted and counted and what the steps r will come to all steps from a
+pub record Stepping (P T : List ℕ) (a : ℕ) (d : List ℕ) (total m n e : ℕ) (r : Stretch) (list : List ℕ) (count : ℕ) : Type 0 where
+  pub pattern : m ≡ length P
+  pub text : n ≡ length T
+  pub above : a ≤ e
+  pub few : count ≤ total + (e - a)
+  pub room : length list ≡ length d
+  pub lists : notedAll (ahead P T a 0 .found) d total ≡ notedAll (r .found) list count
+  pub counts : total + length (ahead P T a 0 .found) ≡ count + length (r .found)
   pub nexts : ahead P T a 0 .next ≡ r .next
+  pub word-steps : ahead P T a 0 .steps ≡ e - a + r .steps
 
-keep-front : (b : Bool) (i : ℕ) (xs : List ℕ) → keep b i xs ≡ keep b i [] ++ xs
-keep-front true i xs = refl
-keep-front false i xs = refl
+pub begin : (P T : List ℕ) (a : ℕ) (d : List ℕ) (total : ℕ) → Stepping P T a d total (length P) (length T) a (ahead P T a 0) d total
+begin P T a d total =
+    record { pattern = refl; text = refl; above = omega arith; few = omega arith; room = refl; lists = refl; counts = refl; nexts = refl; word-steps = omega arith }
 
-tally-le : (b : Bool) → tally b ≤ 1
-tally-le true = omega arith
-tally-le false = omega arith
+-- where there is a letter, a step and those after it
+ahead-step : (P T : List ℕ) (e w : ℕ) → e < length T
+    → ahead P T e w ≡ stepTo P (e + 1) (stepped P (getD T e 0) w) (behind P T (e + 1) (stepped P (getD T e 0) w))
+unfolding stretch
+ahead-step P T e w l = let z : length T - e ≡ suc (length T - (e + 1)) = omega arith in rw z
 
-module _ (P T : List ℕ) (a : ℕ) (d : List ℕ) (total : ℕ) where
-  pub begin : Kept P T a d total a 0 (ahead P T a 0) d total
+-- noting a start, if it is a hit, and then others
+noted-first : (b : Bool) (i : ℕ) (xs d : List ℕ) (total : ℕ) → notedAll (keep b i xs) d total ≡ notedAll xs (noted b d total i) (total + tally b)
+unfolding notedAll
+noted-first true i xs d total = rw (add-one total)
+noted-first false i xs d total = rw (add-zero total)
+
+length-first : (b : Bool) (i : ℕ) (xs : List ℕ) → length (keep b i xs) ≡ tally b + length xs
+length-first true i xs = omega arith
+length-first false i xs = omega arith
+
+module _ {P T : List ℕ} {a : ℕ} {d : List ℕ} {total m n e : ℕ} {list : List ℕ} {count : ℕ} where
+  -- with no step left it is all
+  over : Stepping P T a d total m n e (noStep e) list count
+      → HybridTurns (stretched (ahead P T a 0)) d total (record { next = e; total = count; scan = 1; steps = e - a }) list
   unfolding notedAll
-  begin =
-      record {
-        means = zero-means P T a;
-        past = [];
-        lists = refl;
-        counts = omega arith;
-        few = omega arith;
-        founds = refl;
-        nexts = refl;
-      }
+  over k =
+      let s : e - a ≡ ahead P T a 0 .steps = omega (arith, k .word-steps) in
+      let c : count ≡ total + length (ahead P T a 0 .found) = omega (arith, k .counts) in
+      record { answers = rw (k .nexts, s, c); leaves = sym (k .lists) }
 
-  ahead-step : (e w : ℕ) → e < length T
-      → ahead P T e w ≡ stepTo P (e + 1) (stepped P (getD T e 0) w) (behind P T (e + 1) (stepped P (getD T e 0) w))
-  unfolding stretch
-  ahead-step e w l = let z : length T - e ≡ suc (length T - (e + 1)) = omega arith in rw z
-
-  -- the turn whose steps came to e
-  abbrev turned : ℕ → ℕ → Turned
-  turned e count = record { next = e; total = count; scan = 1; steps = e - a }
-
-  module _ (e w : ℕ) (list : List ℕ) (count : ℕ) where
-    -- with no step left it is all
-    over : 0 < length P → a ≤ length T → Kept P T a d total e w (ended e) list count → Turns (stretched (ahead P T a 0)) d total (turned e count) list
-    over p l k =
-        let f : k .past ≡ ahead P T a 0 .found = sym (k .founds ∙ append-nil (k .past)) in
-        let x = fine P T a p (length T - a) a 0 (omega arith) (omega arith) (zero-means P T a) .ahead in
-        let y = k .nexts in
-        let s : e - a ≡ ahead P T a 0 .steps = omega arith in
-        let c : count ≡ total + length (ahead P T a 0 .found) = k .counts ∙ ap (λ (xs : List ℕ). total + length xs) f in
-        record { answers = rw (y, s, c); leaves = k .lists ∙ ap (λ (xs : List ℕ). notedAll xs d total) f }
-
-    module _ (k : Kept P T a d total e w (ahead P T e w) list count) where
+  module _ (w : ℕ) where
+    module _ (k : Stepping P T a d total m n e (ahead P T e w) list count) where
       -- one word step, and the hit noted that it found
-      pub step : (w′ : ℕ) (list′ : List ℕ) (count′ : ℕ) (b : Bool) (i : ℕ) → a ≤ e → e < length T
-          → w′ ≡ stepped P (getD T e 0) w → b ≡ isSet (length P - 1) w′ → i ≡ e + 1 - length P
-          → list′ ≡ noted b list count i → count′ ≡ count + tally b
-          → Kept P T a d total (e + 1) w′ (behind P T (e + 1) w′) list′ count′
-      step w′ list′ count′ b i l h ew eb ei el ec =
-          let u : ahead P T e w ≡ stepTo P (e + 1) w′ (behind P T (e + 1) w′) = (rw ew (ahead-step e w h)) in
-          let f : ahead P T e w .found ≡ keep b i [] ++ behind P T (e + 1) w′ .found =
-          ap (λ (r : Stretch). r .found) u ∙ rw (← eb, ← ei) (keep-front b i (behind P T (e + 1) w′ .found)) in
-          let t = tally-keep b i in
-          let c = k .counts in
-          let s = k .few in
+      pub step : (w′ : ℕ) (list′ : List ℕ) (count′ : ℕ) (b : Bool) → e < n
+          → w′ ≡ stepped P (getD T e 0) w → b ≡ isSet (m - 1) w′ → list′ ≡ noted b list count (e + 1 - m) → count′ ≡ count + tally b
+          → Stepping P T a d total m n (e + 1) (behind P T (e + 1) w′) list′ count′
+      step w′ list′ count′ b l ew eb el ec =
+          let i = e + 1 - length P in
+          let xs = behind P T (e + 1) w′ .found in
+          let u : ahead P T e w ≡ stepTo P (e + 1) w′ (behind P T (e + 1) w′) = rw ew (ahead-step P T e w (omega arith)) in
+          let f : ahead P T e w .found ≡ keep b i xs = ap (λ (r : Stretch). r .found) u ∙ rw (eb, k .pattern) in
+          let x : list′ ≡ noted b list count i = rw (k .pattern) at el in
+          let t = tally-le b in
           record {
-            means = rw ew (stepped-means P T a e w (k .means) l);
-            past = k .past ++ keep b i [];
-            lists =
-                el
-                ∙ noted-keep b i list count
-                ∙ rw (k .lists, c) (sym (noted-append (k .past) (keep b i []) d total));
-            counts = omega (arith, length-append (k .past) (keep b i []));
-            few = omega (arith, length-append (k .past) (keep b i []), tally-le b);
-            founds = k .founds ∙ rw f (sym (append-assoc (k .past) (keep b i []) (behind P T (e + 1) w′ .found)));
+            pattern = k .pattern;
+            text = k .text;
+            above = omega (arith, k .above);
+            few = omega (arith, k .few, k .above);
+            room = ap length (x ∙ noted-keep b i list count) ∙ length-noted (keep b i []) list count ∙ k .room;
+            lists = k .lists ∙ rw (f, x, ec) (noted-first b i xs list count);
+            counts = omega (arith, k .counts, ap length f, length-first b i xs);
             nexts = k .nexts ∙ ap (λ (r : Stretch). r .next) u;
+            word-steps = omega (arith, k .word-steps, k .above, ap (λ (r : Stretch). r .steps) u);
           }
 
-      pub same-length : length list ≡ length d
-      same-length = ap length (k .lists) ∙ length-noted (k .past) d total
-
       -- at the text's end
-      pub at-end : 0 < length P → a ≤ length T → length T ≤ e → Turns (stretched (ahead P T a 0)) d total (turned e count) list
+      pub at-end : n ≤ e → HybridTurns (stretched (ahead P T a 0)) d total (record { next = e; total = count; scan = 1; steps = e - a }) list
       unfolding stretch
-      at-end p l h = let z : length T - e ≡ 0 = omega arith in over p l (rw z at k)
+      at-end h = let z : length T - e ≡ 0 = omega (arith, k .text) in over (rw z at k)
 
-    module _ (k : Kept P T a d total e w (behind P T e w) list count) where
-      pub kept-length : length list ≡ length d
-      kept-length = ap length (k .lists) ∙ length-noted (k .past) d total
-
+    module _ (k : Stepping P T a d total m n e (behind P T e w) list count) where
       -- a state that is not 0: on with the next letter
-      pub alive-on : (w ≡ 0 → ⊥) → Kept P T a d total e w (ahead P T e w) list count
+      pub alive-on : (w ≡ 0 → ⊥) → Stepping P T a d total m n e (ahead P T e w) list count
       alive-on n = rw (ne-eqb w 0 n) at k
 
       -- a state of 0: no step more
-      pub at-zero : 0 < length P → a ≤ length T → w ≡ 0 → Turns (stretched (ahead P T a 0)) d total (turned e count) list
-      at-zero p l z = over p l (rw (eq-eqb w 0 z) at k)
+      pub at-zero : w ≡ 0 → HybridTurns (stretched (ahead P T a 0)) d total (record { next = e; total = count; scan = 1; steps = e - a }) list
+      at-zero z = over (rw (eq-eqb w 0 z) at k)

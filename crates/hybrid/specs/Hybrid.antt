@@ -1,4 +1,10 @@
--- Hybrid (002, figure 1): a scan test of the last letter at each start; Sunday's shift where it fails, word steps where it holds.
+-- Hybrid (W. F. Smyth, Shu Wang: An Adaptive Hybrid Pattern-Matching Algorithm on Indeterminate Strings, figure 1): a scan test of the last letter at each start; Sunday's shift where it fails, word steps where it holds.
+--
+--   stretched r, shifted i   the turn where the test holds, with the steps r; and where it fails, with the next start i
+--   hybridTurn P T a         a turn at start a
+--   hybridRun P T            the run from start 0
+--   hybridTurned total t     what a turn comes to in code, where `total` hits were noted before it
+--   HybridTurns              a step of the code makes a turn, and notes its hits
 use Prim.Native.Nat.{ℕ, suc, _+_, _-_}
 use mathlib.Core.Bool.{cond}
 use mathlib.Core.List.{List, []}
@@ -10,7 +16,7 @@ use Rattle.hits.specs.Turns.{Turn, Run, run}
 use Rattle.hits.specs.Counts.{notedAll}
 use Rattle.sunday.specs.Sunday.{nextStart}
 use Rattle.hybrid.specs.Stretches.{Stretch, stretch}
-use Rattle.hybrid.specs.declared.Turned.{Turned}
+use Rattle.hybrid.specs.declared.HybridTurned.{HybridTurned}
 
 -- the test holds: the state is cleared and word steps are taken from a; the next start is the position after the last step
 abbrev pub stretched : Stretch → Turn ℕ
@@ -32,9 +38,9 @@ unfoldable pub hybridRun : List ℕ → List ℕ → Run
 hybridRun P T = run (within P T) (hybridTurn P T) (suc (length T)) 0
 
 -- what a turn comes to in code, where `total` hits were noted before it
-abbrev pub turnedOf : ℕ → Turn ℕ → Turned
-turnedOf total t = record { next = t .next; total = total + length (t .found); scan = t .scan; steps = t .steps }
+abbrev pub hybridTurned : ℕ → Turn ℕ → HybridTurned
+hybridTurned total t = record { next = t .next; total = total + length (t .found); scan = t .scan; steps = t .steps }
 
 -- a step of the code makes the turn t: d is the lent list before, `left` the list afterwards
-abbrev pub Turns : Turn ℕ → List ℕ → ℕ → Turned → List ℕ → Type 0
-Turns t d total r left = Promised (turnedOf total t) (notedAll (t .found) d total) r left
+abbrev pub HybridTurns : Turn ℕ → List ℕ → ℕ → HybridTurned → List ℕ → Type 0
+HybridTurns t d total r left = Promised (hybridTurned total t) (notedAll (t .found) d total) r left

@@ -1,4 +1,4 @@
--- Word steps until the state is 0 or the text ends (002, figure 6).
+-- Word steps until the state is 0 or the text ends (W. F. Smyth, Shu Wang: An Adaptive Hybrid Pattern-Matching Algorithm on Indeterminate Strings, figure 6).
 use Prim.Native.Nat.{ℕ, zero, suc, _+_, _-_}
 use mathlib.Core.Bool.{cond}
 use mathlib.Core.List.{List, []}
@@ -14,8 +14,8 @@ pub record Stretch : Type 0 where
   pub steps : ℕ
 
 -- no step more
-abbrev pub ended : ℕ → Stretch
-ended e = record { found = []; next = e; steps = 0 }
+abbrev pub noStep : ℕ → Stretch
+noStep e = record { found = []; next = e; steps = 0 }
 
 -- a step to the position e that leaves the state w, and then the others. The pattern ends here if its last position is set
 abbrev pub stepTo : List ℕ → ℕ → ℕ → Stretch → Stretch
@@ -23,7 +23,7 @@ stepTo P e w r = record { found = keep (isSet (length P - 1) w) (e - length P) (
 
 -- the steps from the letter at e on, with the state w and f letters to go
 unfoldable pub stretch : List ℕ → List ℕ → ℕ → ℕ → ℕ → Stretch
-stretch P T zero e w = ended e
+stretch P T zero e w = noStep e
 stretch P T (suc f) e w =
     let next = stepped P (getD T e 0) w in
-    stepTo P (e + 1) next (cond (eqb next 0) (ended (e + 1)) (stretch P T f (e + 1) next))
+    stepTo P (e + 1) next (cond (eqb next 0) (noStep (e + 1)) (stretch P T f (e + 1) next))

@@ -1,30 +1,40 @@
-// The engine Hybrid (002, figure 1): a scan test of the last letter at each start; Sunday's shift where it fails, word steps where it holds.
+// The engine Hybrid: a scan test of the last letter at each start. Where it fails the pattern shifts as Sunday's; where it holds the state is cleared and word steps are taken from the start on, until the state is 0 or the text ends. The next start is the position after the last step.
 //
-// A departure from the figures: where the pattern's end is the text's end no letter stands behind it, so none is read and the run ends; figure 5 reads one.
+// Its source is 002, W. F. Smyth and Shu Wang, An Adaptive Hybrid Pattern-Matching Algorithm on Indeterminate Strings: figure 1, with figure 5 for the shift and figure 6 for the word steps.
+// Departures from it:
+// 1. Where the pattern's end is the text's end no letter stands behind it, so none is read and the run ends; figure 5 reads one.
+// 2. There is a row and a last position for each base letter alone. Those of a text letter are the union and the greatest of its members', made when the letter is read; figures 3 and 4 hold them for every letter.
+// 3. What is listed is where a hit starts, and not where it ends.
+pub mod c;
+mod twice;
+
 use hits::work::Work;
-use inputs::checks::Text;
 use inputs::checks::checked;
 use inputs::refusal::Answer;
 use inputs::refusal::Check;
 use letters::letter::Letter;
 use letters::letter::meet;
-use pattern::Pattern;
+use letters::strings::Pattern;
+use letters::strings::Text;
+use pattern::Prepared;
 use pattern::masks::Masks;
 use sunday::next_start;
 use word::advance;
 use word::is_set;
 use word::note_end;
 ghost use mathlib.Core.Path.{_≡_};
-ghost use Prim.Native.Nat.{_+_, _-_, _*_, _≤_, _<_};
+ghost use Prim.Native.Nat.{_+_, _-_, _*_, _^_, _≤_, _<_};
 ghost use lib.ListN.{length};
-ghost use Rattle.hits.specs.Hits.{hits, over};
+ghost use Rattle.letters.specs.Sizes.{SizedPattern, Sized};
+ghost use Rattle.hits.specs.Hits.{hits};
+ghost use Rattle.lent.specs.Over.{over};
 ghost use Rattle.hits.specs.Counts.{workOf};
 ghost use Rattle.pattern.specs.Tables.{LastTable, MaskTable};
 ghost use Rattle.inputs.specs.Answers.{Searched, scanOf, stepsOf};
 ghost use Rattle.hybrid.specs.Stretches.{stretch};
-ghost use Rattle.hybrid.specs.Hybrid.{stretched, hybridTurn, hybridRun, Turns};
+ghost use Rattle.hybrid.specs.Hybrid.{stretched, hybridTurn, hybridRun, HybridTurns};
 
-struct Turned {
+struct HybridTurned {
     next: usize,
     total: usize,
     scan: u64,
@@ -34,14 +44,14 @@ struct Turned {
 // Where the test at start a holds: word steps from a, with the state cleared, until the state is 0 or the text ends. Hits are noted after `total` others.
 fn steps_from(
     p: &[u32],
-    rows: &[u64; 32],
+    rows: &[u64; Letter::MAX_K as usize],
     t: &[u32],
     a: usize,
     list: &mut [u32],
     total: usize,
-) -> Turned
-    requires { ⌜ (0 < length (now p)) × (length (now p) ≤ 64) × (length (now t) ≤ 65536) × (a ≤ length (now t)) × (total ≤ 65537) × MaskTable 32 (now p) (now rows) ⌝ }
-    ensures { λ r. ⌜ Turns (stretched (stretch (now (p .entry)) (now (t .entry)) (length (now (t .entry)) - a) a 0)) (now (list .entry)) total r (now (list .exit)) ⌝ }
+) -> HybridTurned
+    requires { do ⌜ SizedPattern (← ⟦Pattern::MAX_M⟧) (now p) × (total + length (now t) < 2 ^ 32) × MaskTable (← ⟦Letter::MAX_K⟧) (now p) (now rows) ⌝ }
+    ensures { λ r. ⌜ HybridTurns (stretched (stretch (now (p .entry)) (now (t .entry)) (length (now (t .entry)) - a) a 0)) (now (list .entry)) total r (now (list .exit)) ⌝ }
 {
     let m = p.len();
     let n = t.len();
@@ -60,11 +70,11 @@ fn steps_from(
 }
 
 // The turn whose word steps went from a to e.
-fn ran(a: usize, e: usize, total: usize) -> Turned
+fn ran(a: usize, e: usize, total: usize) -> HybridTurned
     requires { ⌜ a ≤ e ⌝ }
     ensures { λ r. ⌜ r ≡ record { next = e; total = total; scan = 1; steps = e - a } ⌝ }
 {
-    Turned {
+    HybridTurned {
         next: e,
         total,
         scan: 1,
@@ -75,21 +85,21 @@ fn ran(a: usize, e: usize, total: usize) -> Turned
 // A turn at start a. Hits are noted after `total` others.
 fn step(
     p: &[u32],
-    rows: &[u64; 32],
-    lasts: &[u32; 32],
+    rows: &[u64; Letter::MAX_K as usize],
+    lasts: &[u32; Letter::MAX_K as usize],
     t: &[u32],
     a: usize,
     list: &mut [u32],
     total: usize,
-) -> Turned
-    requires { ⌜ (0 < length (now p)) × (length (now p) ≤ 64) × (length (now t) ≤ 65536) × (a + length (now p) ≤ length (now t)) × (total ≤ 65537) × MaskTable 32 (now p) (now rows) × LastTable 32 (now p) (now lasts) ⌝ }
-    ensures { λ r. ⌜ Turns (hybridTurn (now (p .entry)) (now (t .entry)) a) (now (list .entry)) total r (now (list .exit)) ⌝ }
+) -> HybridTurned
+    requires { do ⌜ SizedPattern (← ⟦Pattern::MAX_M⟧) (now p) × (total + length (now t) < 2 ^ 32) × (a + length (now p) ≤ length (now t)) × MaskTable (← ⟦Letter::MAX_K⟧) (now p) (now rows) × LastTable (← ⟦Letter::MAX_K⟧) (now p) (now lasts) ⌝ }
+    ensures { λ r. ⌜ HybridTurns (hybridTurn (now (p .entry)) (now (t .entry)) a) (now (list .entry)) total r (now (list .exit)) ⌝ }
 {
     let m = p.len();
     if meet(p[m - 1], t[a + m - 1]) {
         return steps_from(p, rows, t, a, list, total);
     }
-    Turned {
+    HybridTurned {
         next: next_start(p, t, lasts, a),
         total,
         scan: 1,
@@ -99,14 +109,14 @@ fn step(
 
 // The run over all starts.
 fn run(p: &[u32], t: &[u32], list: &mut [u32]) -> Work
-    requires { ⌜ (0 < length (now p)) × (length (now p) ≤ 64) × (length (now t) ≤ 65536) ⌝ }
+    requires { do ⌜ Sized (← ⟦Pattern::MAX_M⟧) (← ⟦Text::MAX_N⟧) (now p) (now t) ⌝ }
     ensures { λ r. ⌜ (r ≡ workOf (hits (now (p .entry)) (now (t .entry))) (hybridRun (now (p .entry)) (now (t .entry)))) × (now (list .exit) ≡ over (hits (now (p .entry)) (now (t .entry))) (now (list .entry))) ⌝ }
 {
     let m = p.len();
     let n = t.len();
     let masks = Masks::of(p);
     let rows = masks.rows;
-    let prepared = Pattern::new(p);
+    let prepared = Prepared::new(p);
     let lasts = prepared.lasts;
     let mut a = 0;
     let mut total = 0;

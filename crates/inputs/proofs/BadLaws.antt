@@ -1,20 +1,20 @@
--- Letters that are none of an alphabet: the first of a string, and whether there is one, by a pass that joins all letters. Assumes nothing.
+-- Whether a string has a letter that is none of the alphabet, by a pass that joins all letters. Assumes nothing.
 use mathlib.Core.Path.{_≡_, sym, ap, _∙_}
 use mathlib.Core.Bool.{Bool, true, false, or-true}
 use mathlib.Core.Logic.{⊎-elim}
-use mathlib.Core.List.{List, [], _∷_}
-use Prim.Native.Nat.{ℕ, zero, suc, _+_, _-_, _^_, _≤_, _<_}
-use native.Mathlib.Nat.{eq-or-lt-of-le, lt-of-le-of-lt}
-use native.Mathlib.Numerals.{add-one}
+use mathlib.Core.List.{List}
+use Prim.Native.Nat.{ℕ, _+_, _*_, _%_, _^_, _≤_, _<_}
+use native.Mathlib.Nat.{eq-or-lt-of-le, lt-of-le-of-lt, one-mul, mod-eq-of-lt}
 use native.Mathlib.Omega.{arith}
 use borrow.Author.Tests.{eq-eqb, ne-eqb, leb-true, leb-false, le-leb, lt-leb, lt-ltb, ltb-true, ltb-false}
 use lib.Bits.{bitOr, or-lt, or-add-and, and-le-l, and-le-r}
 use lib.Dec.{eqb, leb, ltb}
-use lib.ListN.{length, drop, getD}
-use lib.Seq.{drop-cons, drop-length}
-use lib.Pow.{pow-pos}
+use lib.ListN.{length, getD}
+use lib.Pow.{pow-pos, pow-lt}
 use Rattle.letters.proofs.Truth.{bool-cases}
-use Rattle.inputs.specs.Refusals.{bad, firstBad}
+use Rattle.letters.specs.First.{firstWith}
+use Rattle.letters.proofs.FirstLaws.{first-some, first-none, first-all}
+use Rattle.inputs.specs.Refusals.{bad}
 
 module _ (k : ℕ) where
   pub good : (x : ℕ) → (x ≡ 0 → ⊥) → x < 2 ^ k → bad k x ≡ false
@@ -34,22 +34,6 @@ module _ (k : ℕ) where
       bool-cases (leb (2 ^ k) x)
       (λ y. let z : true ≡ false = sym (bad-large x (leb-true _ _ y)) ∙ e in absurd (let v : _≡_ {A = ℕ} 0 1 = cc in omega arith))
       (λ n. leb-false _ _ n)
-
-  pub some-bad : (s : List ℕ) (j : ℕ) → j < length s → bad k (getD s j 0) ≡ true → firstBad k s < length s
-  unfolding firstBad
-  some-bad [] j l e = absurd (omega arith)
-  some-bad (x ∷ xs) zero l e = rw e (omega arith)
-  some-bad (x ∷ xs) (suc j) l e =
-      bool-cases (bad k x) (λ y. rw y (omega arith)) (λ n. rw n (omega (arith, some-bad xs j (omega arith) e)))
-
-  pub none-bad : (s : List ℕ) → ((j : ℕ) → j < length s → bad k (getD s j 0) ≡ false) → length s ≤ firstBad k s
-  unfolding firstBad
-  none-bad [] h = omega arith
-  none-bad (x ∷ xs) h = rw (h 0 (omega arith)) (omega (arith, none-bad xs (λ j l. h (suc j) (omega arith))))
-
-  all-good : (s : List ℕ) → length s ≤ firstBad k s → (j : ℕ) → j < length s → bad k (getD s j 0) ≡ false
-  all-good s h j l =
-      bool-cases (bad k (getD s j 0)) (λ y. absurd (omega (arith, some-bad s j l y))) (λ n. n)
 
   -- after i letters: `all` joins them, and `empty` tells whether one is empty
   pub record Joined (s : List ℕ) (all : ℕ) (empty : Bool) (i : ℕ) : Type 0 where
@@ -107,31 +91,19 @@ module _ (k : ℕ) where
       }
 
   module _ (s : List ℕ) (all : ℕ) (empty : Bool) (q : Joined s all empty (length s)) where
-    pub any-empty : empty ≡ true → true ≡ ltb (firstBad k s) (length s)
-    any-empty e = let w = q .gap e in sym (lt-ltb (firstBad k s) (length s) (some-bad s (w .0) (w .1 .0) (bad-zero _ (w .1 .1))))
+    pub any-empty : empty ≡ true → true ≡ ltb (firstWith (bad k) s) (length s)
+    any-empty e = let w = q .gap e in sym (lt-ltb (firstWith (bad k) s) (length s) (first-some (bad k) s (w .0) (w .1 .0) (bad-zero _ (w .1 .1))))
 
-    pub any-large : empty ≡ false → leb (2 ^ k) all ≡ ltb (firstBad k s) (length s)
+    pub any-large : empty ≡ false → leb (2 ^ k) all ≡ ltb (firstWith (bad k) s) (length s)
     any-large e =
-        bool-cases (ltb (firstBad k s) (length s))
+        bool-cases (ltb (firstWith (bad k) s) (length s))
         (λ y. bool-cases (leb (2 ^ k) all) (λ z. z ∙ sym y)
         (λ z. let l : all < 2 ^ k = leb-false _ _ z in
         absurd
         (omega
-        (arith, ltb-true (firstBad k s) (length s) y, none-bad s (λ j h. good (getD s j 0) (q .full e j h) (lt-of-le-of-lt (q .upper j h) l))))))
-        (λ n. lt-leb (2 ^ k) all (q .fits (λ j h. good-small (getD s j 0) (all-good s (ltb-false _ _ n) j h))) ∙ sym n)
+        (arith, ltb-true (firstWith (bad k) s) (length s) y, first-none (bad k) s (λ j h. good (getD s j 0) (q .full e j h) (lt-of-le-of-lt (q .upper j h) l))))))
+        (λ n. lt-leb (2 ^ k) all (q .fits (λ j h. good-small (getD s j 0) (first-all (bad k) s (ltb-false _ _ n) j h))) ∙ sym n)
 
--- the search for the first, by the letter that it has come to
-module _ (k : ℕ) (s : List ℕ) (i : ℕ) where
-  -- a bad letter at i is the first from i on
-  pub first-here : i < length s → bad k (getD s i 0) ≡ true → firstBad k (drop i s) ≡ 0
-  unfolding firstBad
-  first-here h b = rw (drop-cons s i 0 h, b)
-
-  -- past a letter that is not bad
-  pub first-on : i < length s → bad k (getD s i 0) ≡ false → firstBad k (drop i s) ≡ suc (firstBad k (drop (i + 1) s))
-  unfolding firstBad
-  first-on h b = rw (drop-cons s i 0 h, b, add-one i)
-
-pub first-end : (k : ℕ) (s : List ℕ) → firstBad k (drop (length s) s) ≡ 0
-unfolding firstBad
-first-end k s = rw (drop-length s)
+-- the test against 2 ^ k, as the code makes it in 64 bits
+pub one-shifted : (k : ℕ) → k < 64 → 1 * 2 ^ k % 2 ^ 64 ≡ 2 ^ k
+one-shifted k h = rw (one-mul (2 ^ k)) (mod-eq-of-lt (pow-lt h))

@@ -3,19 +3,15 @@ use mathlib.Core.Path.{_≡_, refl}
 use mathlib.Core.Bool.{Bool, true, false}
 use mathlib.Core.List.{List}
 use Prim.Native.Nat.{ℕ, _≤_, _<_}
-use native.Mathlib.Omega.{arith}
-use borrow.Author.Tests.{eqb-false, ltb-false}
-use lib.Dec.{eqb, ltb}
+use borrow.Author.Tests.{ltb-false, le-ltb, lt-ltb}
 use lib.ListN.{length}
-use Rattle.letters.proofs.Truth.{or-false-l, or-false-r}
-use Rattle.inputs.specs.Refusals.{verdict, refuse}
+use Rattle.letters.specs.First.{firstWith, someWith}
+use Rattle.letters.specs.Sizes.{Sized, outside}
+use Rattle.letters.proofs.SizeLaws.{inside-least, inside-most}
+use Rattle.inputs.specs.Refusals.{bad, verdict, refuse, both, withRoom}
 use Rattle.inputs.specs.declared.refusal.Check.{Check}
-use Rattle.inputs.specs.declared.refusal.Check.the-variants.{Passed}
-
-pub record Sized (M N : ℕ) (P T : List ℕ) : Type 0 where
-  pub some : 0 < length P
-  pub short : length P ≤ M
-  pub small : length T ≤ N
+use Rattle.inputs.specs.declared.refusal.Check.the-variants.{Passed, Refused}
+use Rattle.inputs.specs.declared.refusal.Refusal.{Refusal}
 
 -- a check that passed did not refuse
 pub passed-by : (b : Bool) (number place : ℕ) (r : Check) → refuse b number place r ≡ Passed → b ≡ false
@@ -28,16 +24,53 @@ unfolding refuse
 passed-on true number place r e = cc
 passed-on false number place r e = e
 
+-- what passed the checks of a search is within the limits
 pub sized : (K M N k : ℕ) (P T : List ℕ) → verdict K M N k P T ≡ Passed → Sized M N P T
 unfolding verdict
 sized K M N k P T e =
     let e2 = passed-on _ _ _ _ e in
     let e3 = passed-on _ _ _ _ e2 in
     let b2 = passed-by _ _ _ _ e2 in
-    let b3 = passed-by _ _ _ _ e3 in
-    let n0 = eqb-false (length P) 0 (or-false-l (eqb (length P) 0) (ltb M (length P)) b2) in
     record {
-      some = omega arith;
-      short = ltb-false M (length P) (or-false-r (eqb (length P) 0) (ltb M (length P)) b2);
-      small = ltb-false N (length T) b3;
+      pattern = record { some = inside-least 1 M (length P) b2; short = inside-most 1 M (length P) b2 };
+      small = ltb-false N (length T) (passed-by _ _ _ _ e3);
     }
+
+-- past the checks of sizes those of the letters are left
+abbrev pub lettered : ℕ → List ℕ → List ℕ → Check
+lettered k P T = refuse (someWith (bad k) P) 4 (firstWith (bad k) P) (refuse (someWith (bad k) T) 5 (firstWith (bad k) T) Passed)
+
+pub past-sizes : (K M N k : ℕ) (P T : List ℕ) → outside 1 K k ≡ false → outside 1 M (length P) ≡ false → length T ≤ N → verdict K M N k P T ≡ lettered k P T
+unfolding verdict refuse
+past-sizes K M N k P T a b l = rw (a, b, le-ltb N (length T) l)
+
+-- of two parts the first decides, or the second
+pub both-passed : (c d : Check) → c ≡ Passed → both c d ≡ d
+both-passed c d e = rw e
+
+pub both-refused : (c d : Check) (r : Refusal) → c ≡ Refused r → both c d ≡ Refused r
+both-refused c d r e = rw e
+
+-- what passed both passed each
+pub both-first : (c d : Check) → both c d ≡ Passed → c ≡ Passed
+both-first Passed d e = refl
+both-first (Refused r) d e = cc
+
+pub both-second : (c d : Check) → both c d ≡ Passed → d ≡ Passed
+both-second Passed d e = e
+both-second (Refused r) d e = cc
+
+-- a check before two parts is one of the first
+pub refuse-both : (b : Bool) (number place : ℕ) (c d : Check) → refuse b number place (both c d) ≡ both (refuse b number place c) d
+unfolding refuse
+refuse-both true number place c d = refl
+refuse-both false number place c d = refl
+
+pub room-passed : (needed lent : ℕ) (c : Check) → needed ≤ lent → withRoom needed lent c ≡ c
+unfolding withRoom refuse
+room-passed needed lent Passed l = rw (le-ltb lent needed l)
+room-passed needed lent (Refused r) l = refl
+
+pub room-short : (needed lent : ℕ) (c : Check) → lent < needed → c ≡ Passed → withRoom needed lent c ≡ Refused (record { number = 8; place = 0 })
+unfolding withRoom refuse
+room-short needed lent c l e = rw (e, lt-ltb lent needed l)

@@ -2,7 +2,8 @@
 use mathlib.Core.Path.{_≡_, refl, ap}
 use mathlib.Core.List.{List}
 use Prim.Native.Nat.{ℕ}
-use Rattle.hits.specs.Hits.{hits, over}
+use Rattle.hits.specs.Hits.{hits}
+use Rattle.lent.specs.Over.{over}
 use Rattle.hits.specs.Turns.{Run}
 use Rattle.hits.specs.Counts.{workOf}
 use Rattle.hits.specs.declared.work.Work.{Work}

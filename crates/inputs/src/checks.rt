@@ -1,31 +1,19 @@
 // The checks 1 to 5 of a search, in this order.
 use crate::refusal::Check;
-use crate::refusal::Refusal;
+use crate::refusal::refused;
 use letters::letter::Letter;
+use letters::limits::is_outside;
+use letters::strings::Pattern;
+use letters::strings::Text;
 use letters::width::wide;
-use pattern::Pattern;
 ghost use mathlib.Core.Path.{_≡_};
 ghost use Prim.Native.Nat.{_≤_};
-ghost use Rattle.inputs.specs.Refusals.{bad, firstBad, someBad, verdict};
-
-pub struct Text {
-    pub len: usize,
-}
-
-impl Text {
-    // The longest text.
-    pub const MAX_N: usize = 65536;
-}
-
-fn refused(number: u32, place: usize) -> Check
-    ensures { λ r. ⌜ r ≡ Check.Refused (record { number = number; place = place }) ⌝ }
-{
-    Check::Refused(Refusal { number, place })
-}
+ghost use Rattle.letters.specs.First.{firstWith, someWith};
+ghost use Rattle.inputs.specs.Refusals.{bad, verdict};
 
 // Whether c is no letter of an alphabet of k.
 pub fn is_bad(k: u32, c: u32) -> bool
-    requires { ⌜ k ≤ 32 ⌝ }
+    requires { do ⌜ k ≤ (← ⟦Letter::MAX_K⟧) ⌝ }
     ensures { λ r. ⌜ r ≡ bad k c ⌝ }
 {
     if c == 0 {
@@ -36,8 +24,8 @@ pub fn is_bad(k: u32, c: u32) -> bool
 
 // The lowest index of such a letter, or the length.
 pub fn first_bad(k: u32, s: &[u32]) -> usize
-    requires { ⌜ k ≤ 32 ⌝ }
-    ensures { λ r. ⌜ r ≡ firstBad k (now (s .entry)) ⌝ }
+    requires { do ⌜ k ≤ (← ⟦Letter::MAX_K⟧) ⌝ }
+    ensures { λ r. ⌜ r ≡ firstWith (bad k) (now (s .entry)) ⌝ }
 {
     let mut i = 0;
     while i < s.len() {
@@ -51,8 +39,8 @@ pub fn first_bad(k: u32, s: &[u32]) -> usize
 
 // Whether there is such a letter: one pass without an early exit, which the compiler makes wide.
 pub fn any_bad(k: u32, s: &[u32]) -> bool
-    requires { ⌜ k ≤ 32 ⌝ }
-    ensures { λ r. ⌜ r ≡ someBad k (now (s .entry)) ⌝ }
+    requires { do ⌜ k ≤ (← ⟦Letter::MAX_K⟧) ⌝ }
+    ensures { λ r. ⌜ r ≡ someWith (bad k) (now (s .entry)) ⌝ }
 {
     let mut all: u32 = 0;
     let mut empty = false;
@@ -71,19 +59,14 @@ pub fn any_bad(k: u32, s: &[u32]) -> bool
     1u64 << k <= wide(all)
 }
 
+// What the checks say of a search.
 pub fn checked(k: u32, p: &[u32], t: &[u32]) -> Check
     ensures { λ r. do ⌜ r ≡ verdict (← ⟦Letter::MAX_K⟧ .entry) (← ⟦Pattern::MAX_M⟧ .entry) (← ⟦Text::MAX_N⟧ .entry) k (now (p .entry)) (now (t .entry)) ⌝ }
 {
-    if k == 0 {
+    if is_outside(k as usize, 1, Letter::MAX_K as usize) {
         return refused(1, 0);
     }
-    if Letter::MAX_K < k {
-        return refused(1, 0);
-    }
-    if p.len() == 0 {
-        return refused(2, 0);
-    }
-    if Pattern::MAX_M < p.len() {
+    if is_outside(p.len(), 1, Pattern::MAX_M) {
         return refused(2, 0);
     }
     if Text::MAX_N < t.len() {

@@ -7,31 +7,32 @@ use Prim.Native.Nat.{ℕ, zero, suc, _+_, _-_, _*_, _≤_, _<_, zero-le}
 use native.Mathlib.Nat.{eq-zero-or-pos, mul-comm}
 use native.Mathlib.Omega.{arith}
 use borrow.Author.Tests.{leb-true, leb-false, ne-eqb, lt-leb}
-use lib.Dec.{eqb, ltb}
+use lib.Dec.{leb, eqb, ltb}
 use lib.ListN.{length}
 use Rattle.letters.specs.Members.{keep}
+use Rattle.letters.specs.Sizes.{Sized}
 use Rattle.letters.proofs.Truth.{bool-cases}
 use Rattle.hits.specs.Hits.{met, hitAt, hits}
 use Rattle.hits.specs.Turns.{Turn, Run, idle}
 use Rattle.hits.specs.Scans.{reach}
-use Rattle.hits.specs.Counts.{tally}
-use Rattle.hits.proofs.HitLaws.{met-none, one-from}
+use Rattle.hits.proofs.HitLaws.{one-from}
+use Rattle.hits.proofs.ListLaws.{tally-le}
 use Rattle.hits.proofs.ScanLaws.{reach-ge, reach-le, reach-hit, tests-le, tests-reach}
-use Rattle.hits.proofs.RunLaws.{Sound, run-stop, finds-all, bounded, per-shift-small}
-use Rattle.shifts.specs.Singles.{plain}
+use Rattle.hits.proofs.RunLaws.{Sound, run-stop, finds-all, bounded, shift-small}
+use Rattle.hits.specs.Singles.{allSingle}
 use Rattle.shifts.specs.Least.{least}
 use Rattle.shifts.specs.Shift.{fit, trials}
-use Rattle.shifts.proofs.SpanLaws.{span-met}
+use Rattle.hits.proofs.MetLaws.{met-none}
 use Rattle.shifts.proofs.LeastLaws.{least-ge, least-le, least-has, least-first}
-use Rattle.shifts.proofs.ShiftLaws.{fit-in, fit-all, unfit, trials-pay}
+use Rattle.shifts.proofs.ShiftLaws.{fit-in, fit-all, unfit-in, unfit, trials-pay}
 use Rattle.kmp.specs.Kmp.{At, nowMet, shiftBy, shiftTests, kmpTurn, kmpMore, kmpRun}
 
 -- before the last start a shift fits exactly if P's first h - s letters meet the text from i + s on
-pub fit-prefix : (P T : List ℕ) (i h s : ℕ) → i + s + length P ≤ length T → fit P T i 0 h s ≡ met P T (i + s) (h - s)
+pub fit-prefix : (P T : List ℕ) (i h s : ℕ) → i + s + length P ≤ length T → fit P T i 0 h s ≡ met P T (i + s) 0 (h - s)
 fit-prefix P T i h s l =
     let z : 0 - s ≡ 0 = omega arith in
     let y : h - s - 0 ≡ h - s = omega arith in
-    fit-in P T i 0 h s l ∙ rw (z, y) (span-met P T (i + s) (h - s))
+    rw (fit-in P T i 0 h s l, z, y)
 
 -- at h = 0 the least shift is 1 too
 pub shift-is : (P T : List ℕ) (i h : ℕ) → shiftBy P T i h ≡ least (fit P T i 0 h) 1 (h - 1)
@@ -46,17 +47,29 @@ module _ (P T : List ℕ) (i h : ℕ) where
   pub shift-le : shiftBy P T i h ≤ 1 + (h - 1)
   shift-le = rw (shift-is P T i h) (least-le (fit P T i 0 h) 1 (h - 1))
 
+  pub shift-top : 0 < h → shiftBy P T i h ≤ h
+  shift-top l = omega (arith, shift-le)
+
   pub shift-fits : 0 < h → fit P T i 0 h (shiftBy P T i h) ≡ true
   shift-fits l = rw (shift-is P T i h) (least-has (fit P T i 0 h) 1 (h - 1) (fit-all P T i 0 h (1 + (h - 1)) (omega arith)))
 
   pub shift-first : (j : ℕ) → 0 < j → j < shiftBy P T i h → fit P T i 0 h j ≡ false
   shift-first j a b = least-first (fit P T i 0 h) 1 (h - 1) j a (rw (shift-is P T i h) at b)
 
+  -- at most to the first start past the last
+  pub shift-end : i + length P ≤ length T → shiftBy P T i h ≤ length T + 1 - (length P + i)
+  shift-end l =
+      let e = length T + 1 - (length P + i) in
+      bool-cases (leb (shiftBy P T i h) e)
+      (λ y. leb-true _ _ y)
+      (λ n. let a : e < shiftBy P T i h = leb-false _ _ n in
+      absurd (let w = unfit-in P T i 0 h e (shift-first e (omega arith) a) in omega arith))
+
 module _ (P T : List ℕ) where
   -- what is kept from turn to turn: the known letters meet, unless the start is past the last
   pub record Ok (s : At) : Type 0 where
     pub short : s .known ≤ length P
-    pub known-met : s .start + length P ≤ length T → met P T (s .start) (s .known) ≡ true
+    pub known-met : s .start + length P ≤ length T → met P T (s .start) 0 (s .known) ≡ true
 
   module _ (s : At) (o : Ok s) (l : s .start + length P ≤ length T) where
     abbrev h : ℕ
@@ -83,7 +96,7 @@ module _ (P T : List ℕ) where
           short = omega arith;
           known-met = λ q.
               ⊎-elim
-              (λ (z : h ≡ 0). let y : h - by ≡ 0 = omega arith in rw y (met-none P T (s .start + by)))
+              (λ (z : h ≡ 0). let y : h - by ≡ 0 = omega arith in rw y (met-none P T (s .start + by) 0))
               (λ (z : 0 < h). sym (fit-prefix P T (s .start) h by q) ∙ shift-fits P T (s .start) h z)
               (eq-zero-or-pos h);
         }
@@ -108,7 +121,7 @@ module _ (P T : List ℕ) where
         left = λ (s : At). length T + 1 - (s .start + length P);
         settled = λ (s : At). s .start;
         ok = Ok;
-        begins = record { short = zero-le; known-met = λ q. met-none P T 0 };
+        begins = record { short = zero-le; known-met = λ q. met-none P T 0 0 };
         enough = omega arith;
         nothing = refl;
         fair = λ s o y.
@@ -142,10 +155,6 @@ module _ (P T : List ℕ) where
   abbrev φ : At → ℕ
   φ s = 2 * length T - length P - (2 * s .start + s .known)
 
-  tally-le : (b : Bool) → tally b ≤ 1
-  tally-le true = omega arith
-  tally-le false = omega arith
-
   pays : (s : At) → Ok s → s .start + length P ≤ length T → kmpTurn P T s .scan + φ (kmpTurn P T s .next) ≤ φ s
   unfolding kmpTurn nowMet
   pays s o l =
@@ -177,7 +186,7 @@ module _ (P T : List ℕ) where
   tests-cut : (s : At) → kmpTurn P T s .shift ≤ trials P T (s .start) 0 (nowMet P T s) 1 (nowMet P T s - 1)
   unfolding kmpTurn shiftTests
   tests-cut s =
-      bool-cases (plain P 0 (nowMet P T s) && plain T (s .start) (nowMet P T s)) (λ e. rw e zero-le) (λ e. rw e (omega arith))
+      bool-cases (allSingle P 0 (nowMet P T s) && allSingle T (s .start) (nowMet P T s)) (λ e. rw e zero-le) (λ e. rw e (omega arith))
 
   untried : (i h : ℕ) → h ≡ 0 → trials P T i 0 h 1 (h - 1) ≡ 0
   unfolding trials
@@ -212,10 +221,10 @@ module _ (P T : List ℕ) where
       let z : length T - length P - 0 ≡ length T - length P = omega arith in
       rw (mul-comm (length T - length P) (length P - 1)) (rw z at h)
 
-  -- within the limits both fit a word
-  module _ (M N : ℕ) (short : length P ≤ M) (small : length T ≤ N) where
-    pub scan-small : kmpRun P T .scan ≤ 2 * N
-    scan-small = omega (arith, kmp-scan)
+-- Within the limits both fit a word
+module _ {M N : ℕ} {P T : List ℕ} (s : Sized M N P T) where
+  pub kmp-scan-small : kmpRun P T .scan ≤ 2 * N
+  kmp-scan-small = omega (arith, kmp-scan P T, s .small)
 
-    pub shift-small : kmpRun P T .shift ≤ N * M
-    shift-small = per-shift-small M N (length P) (length T) _ kmp-shift short small
+  pub kmp-shift-small : kmpRun P T .shift ≤ N * M
+  kmp-shift-small = shift-small s (kmpRun P T .shift) (kmp-shift P T)

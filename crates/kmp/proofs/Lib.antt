@@ -1,3 +1,3 @@
 pub mod KmpLaws
 pub mod CarryLaws
-pub mod Examples
+pub mod StandLaws

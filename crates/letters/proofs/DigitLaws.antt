@@ -1,11 +1,11 @@
 -- Laws of `digit`: each operation on numbers, digit by digit. Assumes nothing.
 use mathlib.Core.Path.{_≡_, refl, sym, ap, _∙_}
 use mathlib.Core.Logic.{⊎-elim}
-use Prim.Native.Nat.{ℕ, zero, suc, _+_, _-_, _/_, _%_, _^_, _≤_, _<_, min, max}
+use Prim.Native.Nat.{ℕ, zero, suc, _+_, _/_, _%_, _^_, _≤_, _<_, min, max}
 use native.Mathlib.Nat.{eq-zero-or-pos, lt-of-lt-of-le, pow-suc, le-of-suc-le-suc, not-suc-le-zero, zero-lt-suc, div-div-eq-div-mul, mul-comm, div-one}
 use native.Mathlib.Omega.{arith}
 use lib.Arith.{lt-one}
-use lib.Bits.{bitAnd, bitOr, and-step, or-step, or-lt}
+use lib.Bits.{bitAnd, bitOr, and-step, or-step}
 use lib.Pow.{pow-mono}
 use Rattle.letters.specs.Digits.{digit}
 
@@ -84,24 +84,7 @@ pub below-power : (x : ℕ) → x < 2 ^ x
 below-power zero = omega arith
 below-power (suc x) = let p = pow-suc 2 x in omega (arith, below-power x)
 
-pub or-assoc : (a b c : ℕ) → bitOr (bitOr a b) c ≡ bitOr a (bitOr b c)
-or-assoc a b c =
-    digit-ext k (bitOr (bitOr a b) c) (bitOr a (bitOr b c)) (or-lt k (bitOr a b) c (or-lt k a b la lb) lc) (or-lt k a (bitOr b c) la (or-lt k b c lb lc))
-    (λ j l.
-    let p = digit-or j (bitOr a b) c in
-    let q = digit-or j a b in
-    let r = digit-or j a (bitOr b c) in
-    let s = digit-or j b c in
-    omega arith)
-  where
-    k : ℕ
-    k = a + b + c
-
-    la : a < 2 ^ k
-    la = lt-of-lt-of-le (below-power a) (pow-mono (omega arith))
-
-    lb : b < 2 ^ k
-    lb = lt-of-lt-of-le (below-power b) (pow-mono (omega arith))
-
-    lc : c < 2 ^ k
-    lc = lt-of-lt-of-le (below-power c) (pow-mono (omega arith))
+-- two numbers with the same digits are the same, however long they are
+pub digits-same : (x y : ℕ) → ((j : ℕ) → digit j x ≡ digit j y) → x ≡ y
+digits-same x y e =
+    digit-ext (x + y) x y (lt-of-lt-of-le (below-power x) (pow-mono (omega arith))) (lt-of-lt-of-le (below-power y) (pow-mono (omega arith))) (λ j l. e j)

@@ -2,19 +2,19 @@
 use mathlib.Core.Path.{_≡_, refl, sym, ap, _∙_, subst}
 use mathlib.Core.Bool.{true, false, not}
 use mathlib.Core.Logic.{_⊎_, inl, inr, ⊎-elim}
-use Prim.Native.Nat.{ℕ, zero, suc, _+_, _-_, _/_, _%_, _^_, _≤_, _<_}
-use native.Mathlib.Nat.{eq-zero-or-pos, pow-suc, lt-of-lt-of-le}
+use Prim.Native.Nat.{ℕ, zero, suc, _/_, _%_, _^_, _≤_, _<_}
+use native.Mathlib.Nat.{eq-zero-or-pos, pow-suc}
 use native.Mathlib.Omega.{arith}
 use borrow.Author.Tests.{eq-eqb, ne-eqb, eqb-true, eqb-false, not-true, leb-true, leb-false}
 use lib.Arith.{lt-one}
 use lib.Bits.{bitAnd, and-comm, and-zero-r}
 use lib.Count.{ones, ones-step}
 use lib.Dec.{leb}
-use lib.Pow.{pow-pos, pow-mono}
+use lib.Pow.{pow-pos}
 use Rattle.letters.specs.Digits.{digit}
 use Rattle.letters.specs.Letters.{member, shared, meets, single}
 use Rattle.letters.proofs.Truth.{bool-cases, both-ways}
-use Rattle.letters.proofs.DigitLaws.{digit-lt, digit-zero, digit-and, digit-above, digit-ext, some-digit, below-power}
+use Rattle.letters.proofs.DigitLaws.{digit-lt, digit-zero, digit-and, digit-above, digit-ext, digits-same, some-digit, below-power}
 
 -- membership, by the digit
 pub member-digit : (b c : ℕ) → member b c ≡ true → digit b c ≡ 1
@@ -191,11 +191,4 @@ single-same a b x y e =
         not-one i x k d = both-ways (member i x) (digit-member i x d) k
 
     same : (i j : ℕ) → One a i → One b j → i ≡ j → a ≡ b
-    same i j o n e =
-        digit-ext (a + b) a b (big a b) (big′ a b) (λ d l. at a j d (subst (λ (k : ℕ). One a k) e o) b n)
-      where
-        big : (a b : ℕ) → a < 2 ^ (a + b)
-        big a b = lt-of-lt-of-le (below-power a) (pow-mono (omega arith))
-
-        big′ : (a b : ℕ) → b < 2 ^ (a + b)
-        big′ a b = lt-of-lt-of-le (below-power b) (pow-mono (omega arith))
+    same i j o n e = digits-same a b (λ d. at a j d (subst (λ (k : ℕ). One a k) e o) b n)

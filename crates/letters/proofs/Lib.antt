@@ -3,3 +3,5 @@ pub mod DigitLaws
 pub mod LowestLaws
 pub mod LetterLaws
 pub mod MemberLaws
+pub mod FirstLaws
+pub mod SizeLaws

@@ -1,13 +1,16 @@
 -- The lowest set digit, which trailing zeros find, and what is left without it. Assumes nothing.
 use mathlib.Core.Path.{_≡_, refl, ap, _∙_, subst}
 use mathlib.Core.Logic.{_⊎_, inl, inr}
-use Prim.Native.Nat.{ℕ, zero, suc, _-_, _/_, _%_, _^_, _<_}
-use native.Mathlib.Nat.{zero-lt-suc, eq-zero-or-pos, pow-suc, not-suc-le-zero}
+use Prim.Native.Nat.{ℕ, zero, suc, _-_, _/_, _%_, _^_, _≤_, _<_}
+use native.Mathlib.Nat.{zero-lt-suc, eq-zero-or-pos, pow-suc, not-suc-le-zero, le-antisymm}
 use native.Mathlib.Omega.{arith}
+use borrow.Author.Tests.{leb-true, leb-false}
 use lib.Arith.{lt-one}
 use lib.Bits.{bitAnd, and-step, and-le-r}
 use lib.Count.{trailingZeros}
+use lib.Dec.{leb}
 use Rattle.letters.specs.Digits.{digit}
+use Rattle.letters.proofs.Truth.{bool-cases}
 use Rattle.letters.proofs.DigitLaws.{digit-and}
 
 -- t is the lowest set digit of x, a number of k digits; the others stay when it is cleared
@@ -74,3 +77,11 @@ low (suc k) x p h = go (λ q. low k (x / 2) q (let e = pow-suc 2 k in omega arit
     go : (0 < x / 2 → Low k (x / 2) (trailingZeros k (x / 2))) → (x % 2 ≡ 0) ⊎ (0 < x % 2) → Low (suc k) x (trailingZeros (suc k) x)
     go ih (inl e) = rw e (low-even k x (trailingZeros k (x / 2)) e p (ih (omega arith)))
     go ih (inr q) = let e : x % 2 ≡ 1 = omega arith in rw e (low-odd k x e)
+
+-- it is the same whatever the width
+low-le : {j k x s t : ℕ} → Low j x s → Low k x t → s ≤ t
+low-le {j} {k} {x} {s} {t} a b =
+    bool-cases (leb s t) (λ y. leb-true s t y) (λ n. absurd (let z = a .below t (leb-false s t n) in let w = b .member in omega arith))
+
+pub low-same : {j k x s t : ℕ} → Low j x s → Low k x t → s ≡ t
+low-same a b = le-antisymm (low-le a b) (low-le b a)

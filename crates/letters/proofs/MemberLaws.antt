@@ -3,18 +3,17 @@ use mathlib.Core.Path.{_≡_, refl, sym, ap}
 use mathlib.Core.Bool.{true, false}
 use mathlib.Core.List.{List, [], _∷_}
 use mathlib.Core.Logic.{⊎-elim}
-use Prim.Native.Nat.{ℕ, zero, suc, _+_, _-_, _^_, _≤_, _<_, max}
+use Prim.Native.Nat.{ℕ, zero, suc, _+_, _-_, _^_, _≤_, _<_}
 use native.Mathlib.Nat.{eq-or-lt-of-le}
 use native.Mathlib.Omega.{arith}
-use lib.Bits.{bitAnd, bitOr}
+use lib.Bits.{bitAnd}
 use lib.Count.{trailingZeros}
 use lib.Dec.{eqb}
-use lib.ListN.{getD}
 use Rattle.letters.specs.Letters.{member}
-use Rattle.letters.specs.Members.{membersFrom, members, greatestOf, unionOf}
+use Rattle.letters.specs.Members.{membersFrom, members, walked}
 use Rattle.letters.proofs.DigitLaws.{digit-zero}
 use Rattle.letters.proofs.LetterLaws.{digit-member, no-member}
-use Rattle.letters.proofs.LowestLaws.{low}
+use Rattle.letters.proofs.LowestLaws.{Low, low, low-same, rest-less}
 
 -- letters with the same members among those from b on
 from-same : (x y b f : ℕ) → ((j : ℕ) → b ≤ j → member j x ≡ member j y) → membersFrom x b f ≡ membersFrom y b f
@@ -56,21 +55,33 @@ pub members-none : (k : ℕ) → members k 0 ≡ []
 unfolding members
 members-none k = none-from 0 0 k (λ j. no-member j 0 (digit-zero j))
 
--- What a loop over members has gathered: with what the rest still gives it makes up the whole
-pub greatest-step : (k : ℕ) (tab : List ℕ) (c : ℕ) → 0 < c → c < 2 ^ k
-    → greatestOf tab (members k c) ≡ max (getD tab (trailingZeros k c) 0) (greatestOf tab (members k (bitAnd c (c - 1))))
-unfolding greatestOf
-greatest-step k tab c p h = rw (members-walk k c p h)
+-- A loop over the members of c that has come to s: what the members left make of it is the whole, in each alphabet that holds c
+pub record Walking {S : Type 0} (step : S → ℕ → S) (c : ℕ) (s₀ : S) (left : ℕ) (s : S) : Type 0 where
+  pub within : left ≤ c
+  pub whole : (k : ℕ) → c < 2 ^ k → walked step s (members k left) ≡ walked step s₀ (members k c)
 
-pub greatest-end : (k : ℕ) (tab : List ℕ) → greatestOf tab (members k 0) ≡ 0
-unfolding greatestOf
-greatest-end k tab = rw (members-none k)
+pub walk-start : {S : Type 0} (step : S → ℕ → S) (c : ℕ) (s : S) → Walking step c s c s
+walk-start step c s = record { within = omega arith; whole = λ k l. refl }
 
-pub union-step : (k : ℕ) (tab : List ℕ) (c : ℕ) → 0 < c → c < 2 ^ k
-    → unionOf tab (members k c) ≡ bitOr (getD tab (trailingZeros k c) 0) (unionOf tab (members k (bitAnd c (c - 1))))
-unfolding unionOf
-union-step k tab c p h = rw (members-walk k c p h)
+module _ {S : Type 0} {step : S → ℕ → S} {c : ℕ} {s₀ : S} {left : ℕ} {s : S} (w : Walking step c s₀ left s) where
+  -- the lowest is taken, and the rest is left
+  module _ (K t : ℕ) (f : c < 2 ^ K) (e : t ≡ trailingZeros K left) (p : 0 < left) where
+    lowest : Low K left t
+    lowest = rw e (low K left p (omega (arith, w .within)))
 
-pub union-end : (k : ℕ) (tab : List ℕ) → unionOf tab (members k 0) ≡ 0
-unfolding unionOf
-union-end k tab = rw (members-none k)
+    pub walk-low : t < K
+    walk-low = lowest .within
+
+    pub walk-on : (rest : ℕ) → rest ≡ bitAnd left (left - 1) → Walking step c s₀ rest (step s t)
+    unfolding walked
+    walk-on rest r =
+        record {
+          within = omega (arith, rest-less left p, w .within);
+          whole = λ k l.
+              let u : left < 2 ^ k = omega (arith, w .within) in
+              rw (r, low-same lowest (low k left p u)) (rw (members-walk k left p u) at (w .whole k l));
+        }
+
+  pub walk-end : left ≡ 0 → (k : ℕ) → c < 2 ^ k → s ≡ walked step s₀ (members k c)
+  unfolding walked
+  walk-end z k l = rw (z, members-none k) at (w .whole k l)

@@ -34,3 +34,7 @@ and-true-l false b e = e
 pub and-true-r : (a b : Bool) → (a && b) ≡ true → b ≡ true
 and-true-r true b e = e
 and-true-r false b e = let z : false ≡ true = e in cc
+
+pub and-yes : (b : Bool) → (b && true) ≡ b
+and-yes true = refl
+and-yes false = refl

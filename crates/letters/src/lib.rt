@@ -1,4 +1,6 @@
-// Letters: sets of base letters in 32 bits.
+// Letters: sets of base letters, held in bits; strings of them, and the limits of both.
 pub mod letter;
+pub mod limits;
 pub mod members;
+pub mod strings;
 pub mod width;

@@ -23,28 +23,28 @@ pub fn rest(c: u32) -> u32
     c & (c - 1)
 }
 
-fn larger(a: u32, b: u32) -> u32
+fn greater(a: u32, b: u32) -> u32
     ensures { λ r. ⌜ r ≡ max a b ⌝ }
 {
     if a < b { b } else { a }
 }
 
 // The greatest entry of a table over the members of c, 0 if there is none.
-pub fn greatest(tab: &[u32; 32], c: u32) -> u32
+pub fn greatest(tab: &[u32; Letter::MAX_K as usize], c: u32) -> u32
     ensures { λ r. do ⌜ r ≡ greatestOf (now (tab .entry)) (members (← ⟦Letter::MAX_K⟧ .entry) c) ⌝ }
 {
     let mut left = c;
     let mut best: u32 = 0;
     while left != 0 {
         let b = lowest(left) as usize;
-        best = larger(best, tab[b]);
+        best = greater(best, tab[b]);
         left = rest(left);
     }
     best
 }
 
 // The union of a table's rows over the members of c.
-pub fn union(rows: &[u64; 32], c: u32) -> u64
+pub fn union(rows: &[u64; Letter::MAX_K as usize], c: u32) -> u64
     ensures { λ r. do ⌜ r ≡ unionOf (now (rows .entry)) (members (← ⟦Letter::MAX_K⟧ .entry) c) ⌝ }
 {
     let mut unseen = c;

@@ -2,7 +2,7 @@
 use mathlib.Core.Path.{_≡_, refl, sym, ap, _∙_, subst}
 use mathlib.Core.Bool.{true, false, not, _&&_}
 use mathlib.Core.List.{List, [], _∷_, _++_, append-nil}
-use Prim.Native.Nat.{ℕ, zero, suc, _+_, _-_, _≤_, _<_}
+use Prim.Native.Nat.{ℕ, zero, suc, _+_, _≤_, _<_}
 use native.Mathlib.Nat.{add-suc, suc-add, add-zero}
 use native.Mathlib.Omega.{arith}
 use borrow.Author.Tests.{le-ltb, ltb-true, ltb-false, eqb-true, eqb-false, leb-true, leb-false, not-true}
@@ -10,10 +10,11 @@ use lib.Dec.{eqb, leb, ltb}
 use lib.ListN.{length, getD, take, drop, length-append, List·getD-append}
 use lib.Seq.{take-at, append-snoc, getD-append-seam, drop-append-seam, drop-at}
 use Rattle.letters.proofs.Truth.{bool-cases, and-true-l, and-true-r}
-use Rattle.notation.specs.Alphabet.{plain, find, Alphabet, fresh, freshFrom, endAt, andThen, alphabetAt}
+use Rattle.notation.specs.Alphabet.{plain, find, Alphabet, fresh, freshFrom, endAt, bytesThen, alphabetAt}
 use Rattle.notation.specs.declared.alphabet.Bytes.{Bytes}
 use Rattle.notation.specs.declared.alphabet.Bytes.the-variants.{After, Wrong}
-use Rattle.notation.proofs.FindLaws.{find-hit, find-append-in, find-append-out, find-same}
+use Rattle.letters.proofs.FirstLaws.{first-append-in, first-append-out}
+use Rattle.notation.proofs.FindLaws.{find-hit, find-same}
 
 pub record Plain (b : ℕ) : Type 0 where
   pub low : 32 ≤ b
@@ -59,10 +60,10 @@ alphabet-more A b al p f = record { bytes = λ i h. at-bytes i h; differ = λ i 
         bool-cases (ltb i (length A))
         (λ e. let l = ltb-true i (length A) e in
         let d = al .differ i l in
-        ap (find (A ++ (b ∷ []))) (List·getD-append A (b ∷ []) 0 i l) ∙ find-append-in A (b ∷ []) (getD A i 0) (omega arith) ∙ d)
+        ap (find (A ++ (b ∷ []))) (List·getD-append A (b ∷ []) 0 i l) ∙ first-append-in (eqb (getD A i 0)) A (b ∷ []) (omega arith) ∙ d)
         (λ e. let l = ltb-false i (length A) e in
         let q : i ≡ length A = omega (arith, n) in
-        ap (find (A ++ (b ∷ []))) (ap (λ (j : ℕ). getD (A ++ (b ∷ [])) j 0) q ∙ getD-append-seam A b [] 0) ∙ find-append-out A (b ∷ []) b f ∙ ap (λ (x : ℕ). length A + x) (find-same b []) ∙ add-zero (length A) ∙ sym q)
+        ap (find (A ++ (b ∷ []))) (ap (λ (j : ℕ). getD (A ++ (b ∷ [])) j 0) q ∙ getD-append-seam A b [] 0) ∙ first-append-out (eqb b) A (b ∷ []) f ∙ ap (λ (x : ℕ). length A + x) (find-same b []) ∙ add-zero (length A) ∙ sym q)
 
 pub alphabet-none : Alphabet []
 alphabet-none = record { bytes = λ i h. absurd (omega arith); differ = λ i h. absurd (omega arith) }
@@ -96,7 +97,7 @@ next-fresh before a A al =
     record {
       good = ap plain (sym seam) ∙ al .bytes (length before) (omega arith);
       new = bool-cases (ltb (find before a) (length before))
-          (λ e. let l = ltb-true _ _ e in absurd (omega (arith, find-append-in before (a ∷ A) a l))) (λ e. ltb-false _ _ e);
+          (λ e. absurd (omega (arith, ltb-true (find before a) (length before) e, first-append-in (eqb a) before (a ∷ A) (ltb-true _ _ e)))) (λ e. ltb-false _ _ e);
     }
 
 -- the bytes that were read
@@ -157,7 +158,7 @@ pub alphabet-read : (k at : ℕ) (s : List ℕ) (e : ℕ) → alphabetAt k at s 
 unfolding alphabetAt
 alphabet-read k at s e q = go (freshFrom [] k at s) refl q
   where
-    go : (r : Bytes) → freshFrom [] k at s ≡ r → andThen r (λ f. endAt f (drop k s)) ≡ After e → Listed k at s e
+    go : (r : Bytes) → freshFrom [] k at s ≡ r → bytesThen r (λ f. endAt f (drop k s)) ≡ After e → Listed k at s e
     go (Wrong p) h w = absurd (let z : _≡_ {A = ℕ} 0 1 = cc in omega arith)
     go (After f) h w =
         let l = fresh-read [] k at s f alphabet-none h in

@@ -2,8 +2,8 @@
 use mathlib.Core.Path.{_≡_, refl}
 use mathlib.Core.List.{List, [], _∷_, map}
 use Prim.Native.Nat.{ℕ}
-use Rattle.notation.specs.Alphabet.{find}
-use Rattle.notation.specs.Reader.{mayFollow, inner, step, out, Read, got, wrong, scan}
+use Rattle.letters.specs.First.{firstWith}
+use Rattle.notation.specs.Reader.{mayFollow, inner, byteMove, out, Read, got, wrong, readFrom}
 
 record Case : Type 0 where
   alphabet : List ℕ
@@ -26,11 +26,11 @@ cases =
     ∷ []
 
 abbrev read : Case → Read
-read c = scan (c .alphabet) out 0 (c .line)
+read c = readFrom (c .alphabet) out 0 (c .line)
 
 abbrev due : Case → Read
 due c = c .reads
 
 pub table : map read cases ≡ map due cases
-unfolding find mayFollow inner step scan
+unfolding firstWith mayFollow inner byteMove readFrom
 table = refl

@@ -15,50 +15,61 @@ use Rattle.notation.specs.declared.alphabet.Bytes.the-variants.{After, W
 use Rattle.notation.proofs.AlphabetLaws.{fresh-is, fresh-read, alphabet-none}
 
 -- i of the k bytes from `from` on are read
-abbrev pub ReadSo : List ℕ → ℕ → ℕ → ℕ → Type 0
-ReadSo s from k i = freshFrom [] k from (drop from s) ≡ freshFrom (take i (drop from s)) (k - i) (from + i) (drop (from + i) s)
+pub record BytesRead (s : List ℕ) (from k i : ℕ) : Type 0 where
+  pub few : i ≤ k
+  pub within : from + i ≤ length s
+  pub ahead : freshFrom [] k from (drop from s) ≡ freshFrom (take i (drop from s)) (k - i) (from + i) (drop (from + i) s)
 
-module _ (s : List ℕ) (from k : ℕ) where
-  pub so-none : ReadSo s from k 0
-  so-none = ap₂ (λ (x y : ℕ). freshFrom [] x y (drop y s)) (omega arith) (omega arith)
+pub bytes-none : (s : List ℕ) (from k : ℕ) → from ≤ length s → BytesRead s from k 0
+bytes-none s from k l = record { few = omega arith; within = omega arith; ahead = ap₂ (λ (x y : ℕ). freshFrom [] x y (drop y s)) (omega arith) (omega arith) }
 
-  module _ (i : ℕ) (w : ReadSo s from k i) where
-    next : i < k → (r : Bytes) → freshFrom (take i (drop from s)) (suc (k - suc i)) (from + i) (drop (from + i) s) ≡ r → freshFrom [] k from (drop from s) ≡ r
-    next l r e = w ∙ ap (λ (x : ℕ). freshFrom (take i (drop from s)) x (from + i) (drop (from + i) s)) (let q : k - i ≡ suc (k - suc i) = omega arith in q) ∙ e
+module _ {s : List ℕ} {from k i : ℕ} (w : BytesRead s from k i) where
+  pub bytes-all : k ≤ i → After (from + k) ≡ freshFrom [] k from (drop from s)
+  unfolding freshFrom
+  bytes-all h =
+      let e : i ≡ k = omega (arith, w .few) in
+      sym (w .ahead ∙ ap₂ (λ (x y : ℕ). freshFrom (take i (drop from s)) x (from + y) (drop (from + y) s)) (let q : k - i ≡ 0 = omega arith in q) e)
 
-    pub so-end : i < k → from + i ≡ length s → freshFrom [] k from (drop from s) ≡ Wrong (from + i)
+  module _ (l : i < k) where
+    next : (r : Bytes) → freshFrom (take i (drop from s)) (suc (k - suc i)) (from + i) (drop (from + i) s) ≡ r → freshFrom [] k from (drop from s) ≡ r
+    next r e = w .ahead ∙ ap (λ (x : ℕ). freshFrom (take i (drop from s)) x (from + i) (drop (from + i) s)) (let q : k - i ≡ suc (k - suc i) = omega arith in q) ∙ e
+
+    pub bytes-end : from + i ≡ length s → Wrong (from + i) ≡ freshFrom [] k from (drop from s)
     unfolding freshFrom
-    so-end l e = next l _ (ap (λ (j : ℕ). freshFrom (take i (drop from s)) (suc (k - suc i)) (from + i) (drop j s)) e ∙ rw (drop-length s))
+    bytes-end e = sym (next _ (ap (λ (j : ℕ). freshFrom (take i (drop from s)) (suc (k - suc i)) (from + i) (drop j s)) e ∙ rw (drop-length s)))
 
-    module _ (l : i < k) (h : from + i < length s) where
+    module _ (h : from + i < length s) where
       size : length (take i (drop from s)) ≡ i
       size = length-take-le i (drop from s) (omega (arith, length-drop from s))
 
-      not-fresh : fresh (take i (drop from s)) (getD s (from + i) 0) ≡ false → freshFrom [] k from (drop from s) ≡ Wrong (from + i)
+      not-fresh : fresh (take i (drop from s)) (getD s (from + i) 0) ≡ false → Wrong (from + i) ≡ freshFrom [] k from (drop from s)
       unfolding freshFrom
-      not-fresh e = next l _ (rw (drop-cons s (from + i) 0 h, e))
+      not-fresh e = sym (next _ (rw (drop-cons s (from + i) 0 h, e)))
 
-      pub so-odd : plain (getD s (from + i) 0) ≡ false → freshFrom [] k from (drop from s) ≡ Wrong (from + i)
+      pub bytes-odd : plain (getD s (from + i) 0) ≡ false → Wrong (from + i) ≡ freshFrom [] k from (drop from s)
       unfolding fresh
-      so-odd e = not-fresh (rw e)
+      bytes-odd e = not-fresh (rw e)
 
-      pub so-twice : plain (getD s (from + i) 0) ≡ true → find (take i (drop from s)) (getD s (from + i) 0) < i → freshFrom [] k from (drop from s) ≡ Wrong (from + i)
-      unfolding fresh
-      so-twice e f =
-          not-fresh (rw (e, lt-ltb (find (take i (drop from s)) (getD s (from + i) 0)) (length (take i (drop from s))) (omega (arith, size))))
+      -- the byte is plain, and n is its number among the bytes before
+      module _ (e : plain (getD s (from + i) 0) ≡ true) (n : ℕ) (f : n ≡ find (take (from + i - from) (drop from s)) (getD s (from + i) 0)) where
+        number : n ≡ find (take i (drop from s)) (getD s (from + i) 0)
+        number = f ∙ ap (λ (x : ℕ). find (take x (drop from s)) (getD s (from + i) 0)) (let z : from + i - from ≡ i = omega arith in z)
 
-      pub so-on : plain (getD s (from + i) 0) ≡ true → i ≤ find (take i (drop from s)) (getD s (from + i) 0) → ReadSo s from k (i + 1)
-      unfolding freshFrom
-      so-on e f =
-          let t : take (suc i) (drop from s) ≡ take i (drop from s) ++ (getD s (from + i) 0 ∷ []) = take-suc (drop from s) i 0 (omega (arith, length-drop from s)) ∙ ap (λ (x : ℕ). take i (drop from s) ++ (x ∷ [])) (getD-drop from s i 0) in
-          let y = fresh-is (take i (drop from s)) (getD s (from + i) 0) (record { good = e; new = omega (arith, size) }) in
-          next l _ (rw (drop-cons s (from + i) 0 h, y)
-          (ap (λ (xs : List ℕ). freshFrom xs (k - suc i) (suc (from + i)) (drop (suc (from + i)) s)) (sym t)
-          ∙ rw (add-one i, add-suc from i)))
+        pub bytes-twice : n < i → Wrong (from + i) ≡ freshFrom [] k from (drop from s)
+        unfolding fresh
+        bytes-twice m = not-fresh (rw (e, lt-ltb (find (take i (drop from s)) (getD s (from + i) 0)) (length (take i (drop from s))) (omega (arith, size, number))))
 
-  pub so-all : ReadSo s from k k → freshFrom [] k from (drop from s) ≡ After (from + k)
-  unfolding freshFrom
-  so-all w = w ∙ ap (λ (x : ℕ). freshFrom (take k (drop from s)) x (from + k) (drop (from + k) s)) (let q : k - k ≡ 0 = omega arith in q)
+        pub bytes-on : i ≤ n → BytesRead s from k (i + 1)
+        unfolding freshFrom
+        bytes-on m =
+            let t : take (suc i) (drop from s) ≡ take i (drop from s) ++ (getD s (from + i) 0 ∷ []) = take-suc (drop from s) i 0 (omega (arith, length-drop from s)) ∙ ap (λ (x : ℕ). take i (drop from s) ++ (x ∷ [])) (getD-drop from s i 0) in
+            let y = fresh-is (take i (drop from s)) (getD s (from + i) 0) (record { good = e; new = omega (arith, size, number) }) in
+            record {
+              few = omega arith;
+              within = omega arith;
+              ahead = next _ (rw (drop-cons s (from + i) 0 h, y)
+                  (ap (λ (xs : List ℕ). freshFrom xs (k - suc i) (suc (from + i)) (drop (suc (from + i)) s)) (sym t) ∙ rw (add-one i, add-suc from i)));
+            }
 
 -- the line, by the byte after its letters
 module _ (s : List ℕ) (from k : ℕ) where

@@ -4,6 +4,10 @@ pub mod SpellLaws
 pub mod AlphabetLaws
 pub mod WrongLaws
 pub mod ReadLaws
+pub mod SpelledLaws
+pub mod StateLaws
+pub mod LineLaws
+pub mod LineWrong
 pub mod BracketLaws
 pub mod OneLaws
 pub mod WalkLaws

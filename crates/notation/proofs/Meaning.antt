@@ -6,13 +6,15 @@ use native.Mathlib.Omega.{arith}
 use borrow.Author.Tests.{eqb-false, ltb-true, ltb-false}
 use lib.Dec.{eqb, ltb}
 use lib.ListN.{length, getD}
+use Rattle.letters.specs.First.{firstWith}
 use Rattle.notation.specs.Alphabet.{find, Alphabet}
-use Rattle.notation.specs.Spelling.{Letters, LetterLine, line}
+use Rattle.notation.specs.Spelling.{AllProper, LetterLine, line}
 use Rattle.notation.specs.Wrong.{FirstWrong}
-use Rattle.notation.specs.Reader.{out, Read, got, wrong, scan}
+use Rattle.notation.specs.Reader.{out, Read, got, wrong, readFrom}
 use Rattle.notation.proofs.FindLaws.{find-hit}
 use Rattle.letters.proofs.Truth.{bool-cases}
-use Rattle.notation.proofs.ReadLaws.{read-line, first-wrong}
+use Rattle.notation.proofs.LineLaws.{read-line}
+use Rattle.notation.proofs.LineWrong.{first-wrong}
 
 -- no byte stands twice
 abbrev pub Different : List ℕ → Type 0
@@ -23,7 +25,7 @@ differ-different A d i j l h e = omega (arith, d i (omega arith), d j h, ap (fin
 
 -- what is found is found first
 find-first : (A : List ℕ) (i : ℕ) → i < length A → find A (getD A i 0) ≤ i
-unfolding find
+unfolding firstWith
 find-first [] i h = absurd (omega arith)
 find-first (a ∷ A) zero h = bool-cases (eqb a a) (λ e. rw e (omega arith)) (λ e. absurd (eqb-false a a e refl))
 find-first (a ∷ A) (suc i) h = bool-cases (eqb (getD A i 0) a) (λ e. rw e (omega arith)) (λ e. rw e (omega (arith, find-first A i (omega arith))))
@@ -36,10 +38,10 @@ different-differ A d i h =
     (λ e. let l = ltb-false (find A (getD A i 0)) i e in omega arith)
 
 abbrev pub Means : List ℕ → List ℕ → Read → Type 0
-Means A s (got cs e) = Letters (length A) cs × ((r : List ℕ) × (s ≡ line A cs ++ r))
+Means A s (got cs e) = AllProper (length A) cs × ((r : List ℕ) × (s ≡ line A cs ++ r))
 Means A s (wrong p) = FirstWrong (LetterLine A) s p
 
 -- the reader's answer is determined by the right lines alone
-pub read-meaning : (A : List ℕ) → Alphabet A → (s : List ℕ) → (r : Read) → scan A out 0 s ≡ r → Means A s r
-read-meaning A al s (got cs e) q = let w = read-line A al s 0 cs e q in (w .0, (w .1 .0, w .1 .1))
+pub read-meaning : (A : List ℕ) → Alphabet A → (s : List ℕ) → (r : Read) → readFrom A out 0 s ≡ r → Means A s r
+read-meaning A al s (got cs e) q = let w = read-line A s 0 cs e q in (w .0, (w .1 .0, w .1 .1))
 read-meaning A al s (wrong p) q = let w = first-wrong A al s 0 p q in subst (FirstWrong (LetterLine A) s) (let z : w .0 ≡ p = omega (arith, w .1) in z) (w .2)

@@ -1,6 +1,6 @@
 -- Reading a line letter by letter. Assumes nothing.
 use mathlib.Core.Path.{_≡_, refl, sym, ap, _∙_, subst}
-use mathlib.Core.Bool.{_&&_}
+use mathlib.Core.Bool.{cond, _&&_}
 use mathlib.Core.List.{List, [], _∷_}
 use Prim.Native.Nat.{ℕ, zero, suc, _+_, _-_, _^_, _≤_, _<_}
 use native.Mathlib.Numerals.{add-one}
@@ -10,7 +10,7 @@ use lib.Dec.{eqb, leb, ltb}
 use lib.ListN.{length, drop, getD, length-drop}
 use lib.Seq.{drop-cons, drop-length}
 use Rattle.notation.specs.Alphabet.{find}
-use Rattle.notation.specs.Reader.{State, out, inside, Move, stop, end, to, letter, Inner, bad, closed, on, inner, step, Read, got, wrong, more, follow, scan}
+use Rattle.notation.specs.Reader.{State, out, inside, Move, stop, end, to, letter, Inner, wrongByte, closed, on, inner, byteMove, Read, got, wrong, more, follow, readFrom}
 use Rattle.notation.specs.Answers.{leave, bracketFrom, oneOf, oneBy, oneAt}
 use Rattle.notation.specs.declared.lines.Bracket.{Bracket}
 use Rattle.notation.specs.declared.lines.Bracket.the-variants.{After, Wrong as BracketWrong}
@@ -24,50 +24,61 @@ unfolding oneAt
 one-end A s at e = ap (λ (i : ℕ). oneAt A at (drop i s)) e ∙ rw (drop-length s)
 
 module _ (A s : List ℕ) (at : ℕ) (h : at < length s) where
-  one-by : (m : Move) → step A out (getD s at 0) ≡ m → oneAt A at (drop at s) ≡ oneBy m at (bracketFrom A 0 0 0 (suc at) (drop (suc at) s))
+  one-by : (m : Move) → byteMove A out (getD s at 0) ≡ m → oneAt A at (drop at s) ≡ oneBy m at (bracketFrom A 0 0 0 (suc at) (drop (suc at) s))
   unfolding oneAt
   one-by m e = rw (drop-cons s at 0 h, e)
 
-  pub one-lf : getD s at 0 ≡ 10 → oneAt A at (drop at s) ≡ End (at + 1)
-  unfolding step
-  one-lf e = one-by end (rw (eq-eqb (getD s at 0) 10 e)) ∙ ap End (sym (add-one at))
+  pub one-lf : getD s at 0 ≡ 10 → End (at + 1) ≡ oneAt A at (drop at s)
+  unfolding byteMove
+  one-lf e = ap End (add-one at) ∙ sym (one-by end (rw (eq-eqb (getD s at 0) 10 e)))
 
-  module _ (n10 : getD s at 0 ≡ 10 → ⊥) where
-    pub one-single : find A (getD s at 0) < length A → oneAt A at (drop at s) ≡ Letter (2 ^ find A (getD s at 0)) (at + 1)
-    unfolding step
-    one-single l = one-by (letter (2 ^ find A (getD s at 0))) (rw (ne-eqb (getD s at 0) 10 n10, lt-ltb _ _ l)) ∙ ap (Letter (2 ^ find A (getD s at 0))) (sym (add-one at))
+-- the byte at a place does not end the line, and has the number j
+pub record Looked (A s : List ℕ) (at j : ℕ) : Type 0 where
+  pub within : at < length s
+  pub on : getD s at 0 ≡ 10 → ⊥
+  pub number : j ≡ find A (getD s at 0)
 
-    module _ (g : length A ≤ find A (getD s at 0)) where
-      pub one-star : getD s at 0 ≡ 42 → 2 ≤ length A → oneAt A at (drop at s) ≡ Letter (2 ^ length A - 1) (at + 1)
-      unfolding step
-      one-star e l =
-          one-by (letter (2 ^ length A - 1)) (rw (ne-eqb (getD s at 0) 10 n10, le-ltb _ _ g, eq-eqb (getD s at 0) 42 e, le-leb 2 (length A) l))
-          ∙ ap (Letter (2 ^ length A - 1)) (sym (add-one at))
+module _ {A s : List ℕ} {at j : ℕ} (l : Looked A s at j) where
+  -- what the tests after it say
+  abbrev tested : Move
+  tested =
+      cond (ltb j (length A)) (letter (2 ^ j))
+      (cond (eqb (getD s at 0) 42 && leb 2 (length A)) (letter (2 ^ length A - 1))
+      (cond (eqb (getD s at 0) 91 && leb 3 (length A)) (to (inside 0 0 0)) stop))
 
-      pub one-star-few : getD s at 0 ≡ 42 → length A < 2 → oneAt A at (drop at s) ≡ Wrong at
-      unfolding step
-      one-star-few e l =
-          one-by stop (rw (ne-eqb (getD s at 0) 10 n10, le-ltb _ _ g, eq-eqb (getD s at 0) 42 e, lt-leb 2 (length A) l, ne-eqb (getD s at 0) 91 (λ f. omega arith)))
+  one-tested : (m : Move) → tested ≡ m → oneBy m at (bracketFrom A 0 0 0 (suc at) (drop (suc at) s)) ≡ oneAt A at (drop at s)
+  unfolding byteMove
+  one-tested m e = sym (one-by A s at (l .within) m (rw (ne-eqb (getD s at 0) 10 (l .on), ← l .number) e))
 
-      module _ (n42 : getD s at 0 ≡ 42 → ⊥) where
-        pub one-open : getD s at 0 ≡ 91 → 3 ≤ length A → oneAt A at (drop at s) ≡ oneOf (bracketFrom A 0 0 0 (at + 1) (drop (at + 1) s))
-        unfolding step
-        one-open e l =
-            one-by (to (inside 0 0 0)) (rw (ne-eqb (getD s at 0) 10 n10, le-ltb _ _ g, ne-eqb (getD s at 0) 42 n42, eq-eqb (getD s at 0) 91 e, le-leb 3 (length A) l))
-            ∙ ap (λ (i : ℕ). oneOf (bracketFrom A 0 0 0 i (drop i s))) (sym (add-one at))
+  one-letter : (c : ℕ) → tested ≡ letter c → Letter c (at + 1) ≡ oneAt A at (drop at s)
+  one-letter c e = ap (Letter c) (add-one at) ∙ one-tested (letter c) e
 
-        pub one-few : getD s at 0 ≡ 91 → length A < 3 → oneAt A at (drop at s) ≡ Wrong at
-        unfolding step
-        one-few e l =
-            one-by stop (rw (ne-eqb (getD s at 0) 10 n10, le-ltb _ _ g, ne-eqb (getD s at 0) 42 n42, eq-eqb (getD s at 0) 91 e, lt-leb 3 (length A) l))
+  pub one-single : j < length A → Letter (2 ^ j) (at + 1) ≡ oneAt A at (drop at s)
+  one-single h = one-letter (2 ^ j) (rw (lt-ltb j (length A) h))
 
-        pub one-none : (getD s at 0 ≡ 91 → ⊥) → oneAt A at (drop at s) ≡ Wrong at
-        unfolding step
-        one-none e = one-by stop (rw (ne-eqb (getD s at 0) 10 n10, le-ltb _ _ g, ne-eqb (getD s at 0) 42 n42, ne-eqb (getD s at 0) 91 e))
+  module _ (g : length A ≤ j) where
+    pub one-star : getD s at 0 ≡ 42 → 2 ≤ length A → Letter (2 ^ length A - 1) (at + 1) ≡ oneAt A at (drop at s)
+    one-star e h = one-letter (2 ^ length A - 1) (rw (le-ltb j (length A) g, eq-eqb (getD s at 0) 42 e, le-leb 2 (length A) h))
+
+    pub one-star-few : getD s at 0 ≡ 42 → length A < 2 → Wrong at ≡ oneAt A at (drop at s)
+    one-star-few e h =
+        one-tested stop (rw (le-ltb j (length A) g, eq-eqb (getD s at 0) 42 e, lt-leb 2 (length A) h, ne-eqb (getD s at 0) 91 (λ f. omega arith)))
+
+    module _ (n : getD s at 0 ≡ 42 → ⊥) where
+      pub one-open : getD s at 0 ≡ 91 → 3 ≤ length A → oneOf (bracketFrom A 0 0 0 (at + 1) (drop (at + 1) s)) ≡ oneAt A at (drop at s)
+      one-open e h =
+          ap (λ (i : ℕ). oneOf (bracketFrom A 0 0 0 i (drop i s))) (add-one at)
+          ∙ one-tested (to (inside 0 0 0)) (rw (le-ltb j (length A) g, ne-eqb (getD s at 0) 42 n, eq-eqb (getD s at 0) 91 e, le-leb 3 (length A) h))
+
+      pub one-few : getD s at 0 ≡ 91 → length A < 3 → Wrong at ≡ oneAt A at (drop at s)
+      one-few e h = one-tested stop (rw (le-ltb j (length A) g, ne-eqb (getD s at 0) 42 n, eq-eqb (getD s at 0) 91 e, lt-leb 3 (length A) h))
+
+      pub one-none : (getD s at 0 ≡ 91 → ⊥) → Wrong at ≡ oneAt A at (drop at s)
+      one-none e = one-tested stop (rw (le-ltb j (length A) g, ne-eqb (getD s at 0) 42 n, ne-eqb (getD s at 0) 91 e))
 
 -- a byte between letters that opens something opens a bracket
-opens : (A : List ℕ) (b : ℕ) (τ : State) → step A out b ≡ to τ → τ ≡ inside 0 0 0
-unfolding step
+opens : (A : List ℕ) (b : ℕ) (τ : State) → byteMove A out b ≡ to τ → τ ≡ inside 0 0 0
+unfolding byteMove
 opens A b τ q =
     bool-cases (eqb b 10) (λ e. let w : end ≡ to τ = rw e at q in cc)
     (λ e. bool-cases (ltb (find A b) (length A)) (λ f. let w : letter (2 ^ find A b) ≡ to τ = rw (e, f) at q in cc)
@@ -78,11 +89,11 @@ opens A b τ q =
 -- a line goes on after a letter
 module _ (A s : List ℕ) where
   abbrev pub byBracket : Bracket → Read
-  byBracket (After c e) = more c (scan A out e (drop e s))
+  byBracket (After c e) = more c (readFrom A out e (drop e s))
   byBracket (BracketWrong q) = wrong q
 
   abbrev pub byOne : One → Read
-  byOne (Letter c e) = more c (scan A out e (drop e s))
+  byOne (Letter c e) = more c (readFrom A out e (drop e s))
   byOne (End e) = got [] e
   byOne (Wrong q) = wrong q
 
@@ -90,43 +101,43 @@ module _ (A s : List ℕ) where
   by-bracket (After c e) = refl
   by-bracket (BracketWrong q) = refl
 
-  scan-at : (σ : State) (at : ℕ) → at < length s → scan A σ at (drop at s) ≡ follow (step A σ (getD s at 0)) at (λ τ. scan A τ (suc at) (drop (suc at) s))
-  unfolding scan
-  scan-at σ at h = rw (drop-cons s at 0 h)
+  read-at : (σ : State) (at : ℕ) → at < length s → readFrom A σ at (drop at s) ≡ follow (byteMove A σ (getD s at 0)) at (λ τ. readFrom A τ (suc at) (drop (suc at) s))
+  unfolding readFrom
+  read-at σ at h = rw (drop-cons s at 0 h)
 
-  scan-end : (σ : State) (at : ℕ) → at ≡ length s → scan A σ at (drop at s) ≡ wrong at
-  unfolding scan
-  scan-end σ at e = ap (λ (i : ℕ). scan A σ at (drop i s)) e ∙ rw (drop-length s)
+  read-end : (σ : State) (at : ℕ) → at ≡ length s → readFrom A σ at (drop at s) ≡ wrong at
+  unfolding readFrom
+  read-end σ at e = ap (λ (i : ℕ). readFrom A σ at (drop i s)) e ∙ rw (drop-length s)
 
-  scan-bracket : (m at S t n : ℕ) → at + m ≡ length s → scan A (inside S t n) at (drop at s) ≡ byBracket (bracketFrom A S t n at (drop at s))
-  unfolding step
-  scan-bracket zero at S t n e =
+  read-bracket : (m at S t n : ℕ) → at + m ≡ length s → readFrom A (inside S t n) at (drop at s) ≡ byBracket (bracketFrom A S t n at (drop at s))
+  unfolding byteMove
+  read-bracket zero at S t n e =
       let q : at ≡ length s = omega arith in
-      scan-end (inside S t n) at q ∙ ap byBracket (sym (bracket-end A s S t n at q))
-  scan-bracket (suc m) at S t n e = go (inner A S t n (getD s at 0)) refl (λ S' t' n'. scan-bracket m (suc at) S' t' n' (omega arith))
+      read-end (inside S t n) at q ∙ ap byBracket (sym (bracket-end A s S t n at q))
+  read-bracket (suc m) at S t n e = go (inner A S t n (getD s at 0)) refl (λ S' t' n'. read-bracket m (suc at) S' t' n' (omega arith))
     where
       h : at < length s
       h = omega arith
 
       go : (i : Inner) → inner A S t n (getD s at 0) ≡ i
-          → ((S' t' n' : ℕ) → scan A (inside S' t' n') (suc at) (drop (suc at) s) ≡ byBracket (bracketFrom A S' t' n' (suc at) (drop (suc at) s)))
-          → scan A (inside S t n) at (drop at s) ≡ byBracket (bracketFrom A S t n at (drop at s))
-      go bad q ih = scan-at (inside S t n) at h ∙ rw q (ap byBracket (sym (bracket-by A s S t n at h bad q)))
-      go closed q ih = scan-at (inside S t n) at h ∙ rw q (ap byBracket (sym (bracket-by A s S t n at h closed q)))
-      go (on S' t' n') q ih = scan-at (inside S t n) at h ∙ rw q (ih S' t' n' ∙ ap byBracket (sym (bracket-by A s S t n at h (on S' t' n') q)))
+          → ((S' t' n' : ℕ) → readFrom A (inside S' t' n') (suc at) (drop (suc at) s) ≡ byBracket (bracketFrom A S' t' n' (suc at) (drop (suc at) s)))
+          → readFrom A (inside S t n) at (drop at s) ≡ byBracket (bracketFrom A S t n at (drop at s))
+      go wrongByte q ih = read-at (inside S t n) at h ∙ rw q (ap byBracket (sym (bracket-by A s S t n at h wrongByte q)))
+      go closed q ih = read-at (inside S t n) at h ∙ rw q (ap byBracket (sym (bracket-by A s S t n at h closed q)))
+      go (on S' t' n') q ih = read-at (inside S t n) at h ∙ rw q (ih S' t' n' ∙ ap byBracket (sym (bracket-by A s S t n at h (on S' t' n') q)))
 
-  pub scan-one : (at : ℕ) → at ≤ length s → scan A out at (drop at s) ≡ byOne (oneAt A at (drop at s))
-  scan-one at l = bool-cases (eqb at (length s)) (λ e. let q = eqb-true at (length s) e in scan-end out at q ∙ ap byOne (sym (one-end A s at q)))
-      (λ e. let q = eqb-false at (length s) e in let h : at < length s = omega arith in inner-go h (step A out (getD s at 0)) refl)
+  pub read-one : (at : ℕ) → at ≤ length s → readFrom A out at (drop at s) ≡ byOne (oneAt A at (drop at s))
+  read-one at l = bool-cases (eqb at (length s)) (λ e. let q = eqb-true at (length s) e in read-end out at q ∙ ap byOne (sym (one-end A s at q)))
+      (λ e. let q = eqb-false at (length s) e in let h : at < length s = omega arith in inner-go h (byteMove A out (getD s at 0)) refl)
     where
-      inner-go : at < length s → (m : Move) → step A out (getD s at 0) ≡ m → scan A out at (drop at s) ≡ byOne (oneAt A at (drop at s))
-      inner-go h stop q = scan-at out at h ∙ rw q (ap byOne (sym (one-by A s at h stop q)))
-      inner-go h end q = scan-at out at h ∙ rw q (ap byOne (sym (one-by A s at h end q)))
-      inner-go h (letter c) q = scan-at out at h ∙ rw q (ap byOne (sym (one-by A s at h (letter c) q)))
+      inner-go : at < length s → (m : Move) → byteMove A out (getD s at 0) ≡ m → readFrom A out at (drop at s) ≡ byOne (oneAt A at (drop at s))
+      inner-go h stop q = read-at out at h ∙ rw q (ap byOne (sym (one-by A s at h stop q)))
+      inner-go h end q = read-at out at h ∙ rw q (ap byOne (sym (one-by A s at h end q)))
+      inner-go h (letter c) q = read-at out at h ∙ rw q (ap byOne (sym (one-by A s at h (letter c) q)))
       inner-go h (to τ) q =
           let z : τ ≡ inside 0 0 0 = opens A (getD s at 0) τ q in
-          scan-at out at h ∙ rw (q, z)
-          (scan-bracket (length s - suc at) (suc at) 0 0 0 (omega arith) ∙ sym (by-bracket (bracketFrom A 0 0 0 (suc at) (drop (suc at) s)))
+          read-at out at h ∙ rw (q, z)
+          (read-bracket (length s - suc at) (suc at) 0 0 0 (omega arith) ∙ sym (by-bracket (bracketFrom A 0 0 0 (suc at) (drop (suc at) s)))
           ∙ ap byOne (sym (one-by A s at h (to τ) q)))
 
 -- a bracket's closer lies after it, and within the sheet
@@ -154,14 +165,14 @@ bracket-in A (b ∷ s) S t n at = go (inner A S t n b) (λ S' t' n'. bracket-in 
   where
     go : (i : Inner) → ((S' t' n' : ℕ) → AfterIn (suc at) (suc at + length s) (bracketFrom A S' t' n' (suc at) s))
         → AfterIn at (at + suc (length s)) (leave S i at (λ S' t' n'. bracketFrom A S' t' n' (suc at) s))
-    go bad ih = tt
+    go wrongByte ih = tt
     go closed ih = (omega arith, omega arith)
     go (on S' t' n') ih = subst (λ (n : ℕ). AfterIn at n (bracketFrom A S' t' n' (suc at) s)) (omega arith) (after-weaken at (suc at + length s) (bracketFrom A S' t' n' (suc at) s) (ih S' t' n'))
 
 one-in-list : (A s : List ℕ) (at : ℕ) → OneIn at (at + length s) (oneAt A at s)
 unfolding oneAt
 one-in-list A [] at = tt
-one-in-list A (b ∷ s) at = go (step A out b)
+one-in-list A (b ∷ s) at = go (byteMove A out b)
   where
     go : (m : Move) → OneIn at (at + suc (length s)) (oneBy m at (bracketFrom A 0 0 0 (suc at) s))
     go stop = tt

@@ -1,7 +1,16 @@
 -- The reader of a letter line, byte by byte.
-use Prim.Native.Nat.{ℕ, zero, suc, _+_, _-_, _^_}
-use mathlib.Core.Bool.{Bool, true, false, cond, _&&_, _||_}
-use mathlib.Core.List.{List, [], _∷_, _++_}
+--
+--   State          between letters, or in a bracket with the members so far
+--   Move           what a byte does: it is wrong, ends the line, leads to a state, or ends a letter
+--   mayFollow      a member may stand here, and the bracket can still be closed
+--   Inner, inner   what a byte does in a bracket: wrong, the closer, or one more member
+--   byteMove       what a byte does in a state
+--   Read           the letters of a line and the place after it, or the place of the first wrong byte
+--   more, follow   a letter in front of what is read; what is read after a byte
+--   readFrom       reading from a state on
+use Prim.Native.Nat.{ℕ, suc, _+_, _-_, _^_}
+use mathlib.Core.Bool.{Bool, cond, _&&_, _||_}
+use mathlib.Core.List.{List, [], _∷_}
 use lib.Dec.{eqb, leb, ltb}
 use lib.ListN.{length}
 use Rattle.notation.specs.Alphabet.{find}
@@ -11,7 +20,6 @@ pub data State : Type 0 where
   out : State
   inside : ℕ → ℕ → ℕ → State
 
--- what a byte does
 pub data Move : Type 0 where
   stop : Move
   end : Move
@@ -22,31 +30,30 @@ pub data Move : Type 0 where
 unfoldable pub mayFollow : ℕ → ℕ → ℕ → ℕ → Bool
 mayFollow k t n j = ltb j k && leb t j && ltb (suc n) k && (leb 1 n || ltb (suc j) k)
 
--- what a byte does in a bracket: wrong, the closer, or one more member
 pub data Inner : Type 0 where
-  bad : Inner
+  wrongByte : Inner
   closed : Inner
   on : ℕ → ℕ → ℕ → Inner
 
 unfoldable pub inner : List ℕ → ℕ → ℕ → ℕ → ℕ → Inner
 inner A S t n b =
-    cond (eqb b 93) (cond (leb 2 n) closed bad)
-    (cond (mayFollow (length A) t n (find A b)) (on (S + 2 ^ find A b) (suc (find A b)) (suc n)) bad)
+    cond (eqb b 93) (cond (leb 2 n) closed wrongByte)
+    (cond (mayFollow (length A) t n (find A b)) (on (S + 2 ^ find A b) (suc (find A b)) (suc n)) wrongByte)
 
 abbrev pub moveIn : ℕ → Inner → Move
-moveIn S bad = stop
+moveIn S wrongByte = stop
 moveIn S closed = letter S
 moveIn S (on S' t n) = to (inside S' t n)
 
-unfoldable pub step : List ℕ → State → ℕ → Move
-step A out b =
+unfoldable pub byteMove : List ℕ → State → ℕ → Move
+byteMove A out b =
     cond (eqb b 10) end
     (cond (ltb (find A b) (length A)) (letter (2 ^ find A b))
     (cond (eqb b 42 && leb 2 (length A)) (letter (2 ^ length A - 1))
     (cond (eqb b 91 && leb 3 (length A)) (to (inside 0 0 0)) stop)))
-step A (inside S t n) b = moveIn S (inner A S t n b)
+byteMove A (inside S t n) b = moveIn S (inner A S t n b)
 
--- the letters of the line and the place after its LF; or the place of the first wrong byte
+-- the place after a line is that after its LF
 pub data Read : Type 0 where
   got : List ℕ → ℕ → Read
   wrong : ℕ → Read
@@ -62,6 +69,6 @@ follow (to τ) at f = f τ
 follow (letter c) at f = more c (f out)
 
 -- reading s, which begins at the place at
-unfoldable pub scan : List ℕ → State → ℕ → List ℕ → Read
-scan A σ at [] = wrong at
-scan A σ at (b ∷ s) = follow (step A σ b) at (λ τ. scan A τ (suc at) s)
+unfoldable pub readFrom : List ℕ → State → ℕ → List ℕ → Read
+readFrom A σ at [] = wrong at
+readFrom A σ at (b ∷ s) = follow (byteMove A σ b) at (λ τ. readFrom A τ (suc at) s)

@@ -1,6 +1,7 @@
 // The alphabet: which bytes may stand for letters, their numbers, and the line that lists them.
+use letters::width::byte_index;
 ghost use mathlib.Core.Path.{_≡_};
-ghost use Prim.Native.Nat.{_≤_};
+ghost use Prim.Native.Nat.{_^_, _≤_, _<_};
 ghost use mathlib.Core.List.{[]};
 ghost use lib.ListN.{length, drop, getD};
 ghost use Rattle.notation.specs.Alphabet.{plain, find, TableOf, freshFrom, alphabetAt};
@@ -45,28 +46,22 @@ fn number(alphabet: &[u8], b: u8) -> usize
 }
 
 fn narrow(k: usize) -> u8
-    requires { ⌜ k ≤ 32 ⌝ }
+    requires { ⌜ k < 2 ^ 8 ⌝ }
     ensures { λ r. ⌜ r ≡ k ⌝ }
 {
     k as u8
 }
 
-fn wide(b: u8) -> usize
-    ensures { λ r. ⌜ r ≡ b ⌝ }
-{
-    b as usize
-}
-
 // The numbers of all bytes. The later letter is stored first, so that the first of two equal bytes counts.
 pub fn numbers(alphabet: &[u8]) -> [u8; 256]
-    requires { ⌜ length (now alphabet) ≤ 32 ⌝ }
+    requires { ⌜ length (now alphabet) < 2 ^ 8 ⌝ }
     ensures { λ r. ⌜ TableOf (now (alphabet .entry)) r ⌝ }
 {
     let mut t = [narrow(alphabet.len()); 256];
     let mut i = alphabet.len();
     while i > 0 {
         i -= 1;
-        let b = wide(alphabet[i]);
+        let b = byte_index(alphabet[i]);
         t[b] = narrow(i);
     }
     t
@@ -75,12 +70,12 @@ pub fn numbers(alphabet: &[u8]) -> [u8; 256]
 pub(crate) fn look_up(table: &[u8; 256], b: u8) -> usize
     ensures { λ r. ⌜ r ≡ getD (now (table .entry)) b 0 ⌝ }
 {
-    wide(table[wide(b)])
+    byte_index(table[byte_index(b)])
 }
 
 // Reads k bytes of an alphabet, each plain and none of those before.
 pub fn read_bytes(sheet: &[u8], from: usize, k: usize) -> Bytes
-    requires { ⌜ (from ≤ length (now sheet)) × (k ≤ 32) ⌝ }
+    requires { ⌜ from ≤ length (now sheet) ⌝ }
     ensures { λ r. ⌜ r ≡ freshFrom [] k from (drop from (now (sheet .entry))) ⌝ }
 {
     let mut i: usize = 0;
@@ -103,7 +98,7 @@ pub fn read_bytes(sheet: &[u8], from: usize, k: usize) -> Bytes
 
 // Reads the alphabet line of k letters.
 pub fn read_line(sheet: &[u8], from: usize, k: usize) -> Bytes
-    requires { ⌜ (from ≤ length (now sheet)) × (k ≤ 32) ⌝ }
+    requires { ⌜ from ≤ length (now sheet) ⌝ }
     ensures { λ r. ⌜ r ≡ alphabetAt k from (drop from (now (sheet .entry))) ⌝ }
 {
     match read_bytes(sheet, from, k) {

@@ -1,12 +1,12 @@
 // Reading a line of letters.
 use crate::alphabet::look_up;
+use letters::letter::Letter;
 ghost use mathlib.Core.Path.{_≡_};
-ghost use Prim.Native.Nat.{_+_, _-_, _≤_, _<_, _^_};
+ghost use Prim.Native.Nat.{_-_, _≤_, _<_, _^_};
 ghost use lib.ListN.{length, drop};
-ghost use Rattle.notation.specs.Alphabet.{find, TableOf};
-ghost use Rattle.notation.specs.Reader.{mayFollow, out, scan};
-ghost use Rattle.notation.specs.Answers.{bracketFrom, oneAt, countedOf, lettersOf, Room};
-ghost use Rattle.hits.specs.Hits.{over};
+ghost use Rattle.notation.specs.Reader.{mayFollow, out, readFrom};
+ghost use Rattle.notation.specs.Answers.{Given, bracketFrom, oneAt, countedOf, lettersOf, Room};
+ghost use Rattle.lent.specs.Over.{over};
 
 // What the reader of a bracket leaves with: the set and the place after the closer, or the place of the first wrong byte.
 pub enum Bracket {
@@ -28,8 +28,8 @@ pub enum Line {
 }
 
 // The set of the letter j alone.
-fn single(j: usize) -> u32
-    requires { ⌜ j < 32 ⌝ }
+fn only(j: usize) -> u32
+    requires { do ⌜ j < (← ⟦Letter::MAX_K⟧) ⌝ }
     ensures { λ r. ⌜ r ≡ 2 ^ j ⌝ }
 {
     1u32 << j
@@ -37,14 +37,14 @@ fn single(j: usize) -> u32
 
 // The set of all k letters.
 fn all(k: usize) -> u32
-    requires { ⌜ k ≤ 32 ⌝ }
+    requires { do ⌜ k ≤ (← ⟦Letter::MAX_K⟧) ⌝ }
     ensures { λ r. ⌜ r ≡ 2 ^ k - 1 ⌝ }
 {
     ((1u64 << k) - 1) as u32
 }
 
 fn may_follow(k: usize, above: usize, count: usize, j: usize) -> bool
-    requires { ⌜ (j ≤ k) × (count < k) × (k ≤ 32) ⌝ }
+    requires { ⌜ count < k ⌝ }
     ensures { λ r. ⌜ r ≡ mayFollow k above count j ⌝ }
 {
     if k <= j {
@@ -64,8 +64,7 @@ fn may_follow(k: usize, above: usize, count: usize, j: usize) -> bool
 
 // Reads a bracket from the place after its opener.
 fn read_bracket(alphabet: &[u8], table: &[u8; 256], sheet: &[u8], from: usize) -> Bracket
-    requires { ⌜ (0 < length (now alphabet)) × (length (now alphabet) ≤ 32) × (from ≤ length (now sheet)) ⌝ }
-    requires { ⌜ TableOf (now alphabet) (now table) ⌝ }
+    requires { do ⌜ Given (← ⟦Letter::MAX_K⟧) (now alphabet) (now table) (now sheet) from ⌝ }
     ensures { λ r. ⌜ r ≡ bracketFrom (now (alphabet .entry)) 0 0 0 from (drop from (now (sheet .entry))) ⌝ }
 {
     let mut at = from;
@@ -87,7 +86,7 @@ fn read_bracket(alphabet: &[u8], table: &[u8; 256], sheet: &[u8], from: usize) -
         if !may_follow(alphabet.len(), above, count, j) {
             break Bracket::Wrong(at);
         }
-        set += single(j);
+        set += only(j);
         above = j + 1;
         count += 1;
         at += 1;
@@ -97,8 +96,7 @@ fn read_bracket(alphabet: &[u8], table: &[u8; 256], sheet: &[u8], from: usize) -
 
 // What stands at a place of a line.
 fn read_one(alphabet: &[u8], table: &[u8; 256], sheet: &[u8], at: usize) -> One
-    requires { ⌜ (0 < length (now alphabet)) × (length (now alphabet) ≤ 32) × (at ≤ length (now sheet)) ⌝ }
-    requires { ⌜ TableOf (now alphabet) (now table) ⌝ }
+    requires { do ⌜ Given (← ⟦Letter::MAX_K⟧) (now alphabet) (now table) (now sheet) at ⌝ }
     ensures { λ r. ⌜ r ≡ oneAt (now (alphabet .entry)) at (drop at (now (sheet .entry))) ⌝ }
 {
     if at == sheet.len() {
@@ -111,7 +109,7 @@ fn read_one(alphabet: &[u8], table: &[u8; 256], sheet: &[u8], at: usize) -> One
     let k = alphabet.len();
     let j = look_up(table, b);
     if j < k {
-        return One::Letter(single(j), at + 1);
+        return One::Letter(only(j), at + 1);
     }
     if b == b'*' {
         if 2 <= k {
@@ -132,9 +130,8 @@ fn read_one(alphabet: &[u8], table: &[u8; 256], sheet: &[u8], at: usize) -> One
 
 // The first pass: how many letters the line has, and the place after it.
 pub fn count_letters(alphabet: &[u8], table: &[u8; 256], sheet: &[u8], from: usize) -> Line
-    requires { ⌜ (0 < length (now alphabet)) × (length (now alphabet) ≤ 32) × (from ≤ length (now sheet)) ⌝ }
-    requires { ⌜ TableOf (now alphabet) (now table) ⌝ }
-    ensures { λ r. ⌜ r ≡ countedOf (scan (now (alphabet .entry)) out from (drop from (now (sheet .entry)))) ⌝ }
+    requires { do ⌜ Given (← ⟦Letter::MAX_K⟧) (now alphabet) (now table) (now sheet) from ⌝ }
+    ensures { λ r. ⌜ r ≡ countedOf (readFrom (now (alphabet .entry)) out from (drop from (now (sheet .entry)))) ⌝ }
 {
     let mut at = from;
     let mut n: usize = 0;
@@ -157,10 +154,9 @@ pub fn count_letters(alphabet: &[u8], table: &[u8; 256], sheet: &[u8], from: usi
 
 // The second pass: writes the letters of a right line.
 pub fn put_letters(alphabet: &[u8], table: &[u8; 256], sheet: &[u8], from: usize, list: &mut [u32])
-    requires { ⌜ (0 < length (now alphabet)) × (length (now alphabet) ≤ 32) × (from ≤ length (now sheet)) ⌝ }
-    requires { ⌜ TableOf (now alphabet) (now table) ⌝ }
-    requires { ⌜ Room (scan (now alphabet) out from (drop from (now sheet))) (length (now list)) ⌝ }
-    ensures { λ _. ⌜ now (list .exit) ≡ over (lettersOf (scan (now (alphabet .entry)) out from (drop from (now (sheet .entry))))) (now (list .entry)) ⌝ }
+    requires { do ⌜ Given (← ⟦Letter::MAX_K⟧) (now alphabet) (now table) (now sheet) from ⌝ }
+    requires { ⌜ Room (readFrom (now alphabet) out from (drop from (now sheet))) (length (now list)) ⌝ }
+    ensures { λ _. ⌜ now (list .exit) ≡ over (lettersOf (readFrom (now (alphabet .entry)) out from (drop from (now (sheet .entry))))) (now (list .entry)) ⌝ }
 {
     let mut at = from;
     let mut i: usize = 0;

@@ -1,6 +1,6 @@
--- R from its table: how the table grows letter by letter, and that R of a letter is the greatest over its members. Assumes nothing.
-use mathlib.Core.Path.{_≡_, refl, sym, ap, _∙_}
-use mathlib.Core.Bool.{true}
+-- R from its table: what each letter adds to it, and that R of a letter is the greatest over its members. Assumes nothing.
+use mathlib.Core.Path.{_≡_, refl, sym, _∙_}
+use mathlib.Core.Bool.{true, cond}
 use mathlib.Core.List.{List}
 use Prim.Native.Nat.{ℕ, zero, suc, _+_, _^_, _≤_, _<_}
 use native.Mathlib.Nat.{le-antisymm}
@@ -9,40 +9,23 @@ use native.Mathlib.Omega.{arith}
 use lib.ListN.{length, getD}
 use Rattle.letters.specs.Letters.{member}
 use Rattle.letters.specs.Members.{members, greatestOf}
-use Rattle.letters.proofs.Truth.{bool-cases}
 use Rattle.letters.proofs.LetterLaws.{meets-some, some-meets}
 use Rattle.pattern.specs.Last.{lastIn, afterR}
 use Rattle.pattern.specs.Tables.{LastTable}
-use Rattle.pattern.specs.Visits.{Visited}
-use Rattle.pattern.proofs.LastLaws.{last-start, last-yes, last-no, last-le, last-has, last-ge}
-use Rattle.pattern.proofs.MostLaws.{most, most-upper, most-least, member-below, greatest-most}
+use Rattle.pattern.proofs.LastLaws.{last-le, last-has, last-ge}
+use Rattle.pattern.proofs.MostLaws.{most, most-upper, most-least, member-below}
 use Rattle.pattern.proofs.PowerLaws.{meets-lone}
 
--- the table over P's first h letters
-abbrev pub LastsTo : ℕ → List ℕ → ℕ → List ℕ → Type 0
-LastsTo K P h tab = (b : ℕ) → b < K → getD tab b 0 ≡ lastIn P (2 ^ b) h
-
-module _ (K : ℕ) (P : List ℕ) where
-  pub lasts-start : (tab : List ℕ) → ((b : ℕ) → b < K → getD tab b 0 ≡ 0) → LastsTo K P 0 tab
-  lasts-start tab z b l = z b l ∙ sym (last-start P (2 ^ b))
-
+module _ (P : List ℕ) where
   -- one letter more: its index + 1 at each of its members
-  pub lasts-on : (h : ℕ) (tab new : List ℕ) → LastsTo K P h tab → Visited K (λ _. h + 1) (getD P h 0) tab new → LastsTo K P (h + 1) new
-  lasts-on h tab new t v b l =
-      v .at b l
-      ∙ rw (add-one h)
-      (bool-cases (member b (getD P h 0))
-      (λ y. rw y (sym (last-yes P (2 ^ b) h (meets-lone (getD P h 0) b ∙ y))))
-      (λ n. rw n (t b l ∙ sym (last-no P (2 ^ b) h (meets-lone (getD P h 0) b ∙ n)))))
-
-  pub lasts-end : (h : ℕ) (tab : List ℕ) → h ≡ length P → LastsTo K P h tab → LastTable K P tab
-  unfolding afterR
-  lasts-end h tab e t b l = t b l ∙ ap (lastIn P (2 ^ b)) e
+  pub last-grows : (h b : ℕ) → lastIn P (2 ^ b) (h + 1) ≡ cond (member b (getD P h 0)) (h + 1) (lastIn P (2 ^ b) h)
+  unfolding lastIn
+  last-grows h b = rw (add-one h, meets-lone (getD P h 0) b)
 
   -- R of a letter, over its members
-  pub r-greatest : (tab : List ℕ) (c : ℕ) → c < 2 ^ K → LastTable K P tab → greatestOf tab (members K c) ≡ afterR P c
+  pub r-greatest : (K : ℕ) (tab : List ℕ) (c : ℕ) → c < 2 ^ K → LastTable K P tab → greatestOf tab (members K c) ≡ afterR P c
   unfolding afterR
-  r-greatest tab c w t = greatest-most tab (members K c) ∙ le-antisymm (most-least f c K (afterR P c) under) (reached (afterR P c) refl)
+  r-greatest K tab c w t = le-antisymm (most-least f c K (afterR P c) under) (reached (afterR P c) refl)
     where
       f : ℕ → ℕ
       f b = getD tab b 0
@@ -61,7 +44,7 @@ module _ (K : ℕ) (P : List ℕ) where
       under : (b : ℕ) → b < K → member b c ≡ true → f b ≤ afterR P c
       under b l m = rw (t b l) (lone-le b (length P) m)
 
-      reached : (r : ℕ) → afterR P c ≡ r → r ≤ most f (members K c)
+      reached : (r : ℕ) → afterR P c ≡ r → r ≤ most f 0 (members K c)
       reached zero e = omega arith
       reached (suc j) e =
           let s = meets-some (getD P j 0) c (last-has P c (length P) j e) in

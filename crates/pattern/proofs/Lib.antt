@@ -1,9 +1,9 @@
 pub mod LastLaws
+pub mod PowerLaws
+pub mod EntryLaws
+pub mod GrowLaws
 pub mod MostLaws
 pub mod MaskLaws
-pub mod PowerLaws
 pub mod LastTable
-pub mod VisitLaws
-pub mod MaskTable
 pub mod TableLaws
 pub mod ShiftTable

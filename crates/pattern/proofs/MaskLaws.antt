@@ -1,5 +1,5 @@
 -- Masks: the union of the rows of a letter's members has the places whose letters meet it. Assumes nothing.
-use mathlib.Core.Path.{_≡_, _∙_}
+use mathlib.Core.Path.{_≡_, ap, _∙_}
 use mathlib.Core.Bool.{true, false}
 use mathlib.Core.List.{List}
 use Prim.Native.Nat.{ℕ, _^_, _≤_, _<_}
@@ -11,14 +11,14 @@ use Rattle.letters.specs.Letters.{member, meets}
 use Rattle.letters.specs.Members.{members, unionOf}
 use Rattle.hits.specs.Counts.{tally}
 use Rattle.letters.proofs.Truth.{bool-cases, both-ways}
-use Rattle.letters.proofs.DigitLaws.{digit-lt}
+use Rattle.letters.proofs.DigitLaws.{digit-zero, digit-lt}
 use Rattle.letters.proofs.LetterLaws.{member-digit, digit-member, meets-some, some-meets}
 use Rattle.pattern.specs.Tables.{MaskTable}
 use Rattle.pattern.proofs.MostLaws.{most, most-upper, most-least, member-below, union-most}
 
 -- rows as a function of the base letter and the place, whatever holds them: at a place whose letter is x
 module _ (K x c j : ℕ) (row : ℕ → ℕ → ℕ) (within : c < 2 ^ K) (is : (b : ℕ) → b < K → row b j ≡ digit b x) where
-  pub rows-meet : most (λ b. row b j) (members K c) ≡ tally (meets x c)
+  pub rows-meet : most (λ b. row b j) 0 (members K c) ≡ tally (meets x c)
   rows-meet =
       bool-cases (meets x c)
       (λ y. let w = meets-some x c y in
@@ -39,4 +39,4 @@ module _ (K x c j : ℕ) (row : ℕ → ℕ → ℕ) (within : c < 2 ^ K) (is : 
 -- the mask of a letter, place by place
 pub mask-digit : (K : ℕ) (P rows : List ℕ) (c j : ℕ) → MaskTable K P rows → c < 2 ^ K → digit j (unionOf rows (members K c)) ≡ tally (meets (getD P j 0) c)
 mask-digit K P rows c j t h =
-    union-most j rows (members K c) ∙ rows-meet K (getD P j 0) c j (λ b i. digit i (getD rows b 0)) h (λ b l. t b j l)
+    union-most j rows (members K c) 0 ∙ ap (λ (x : ℕ). most (λ b. digit j (getD rows b 0)) x (members K c)) (digit-zero j) ∙ rows-meet K (getD P j 0) c j (λ b i. digit i (getD rows b 0)) h (λ b l. t b j l)

@@ -1,8 +1,12 @@
 -- A letter with one member, as a power: its digits, and what meets it. Assumes nothing.
 use mathlib.Core.Path.{_≡_, refl, sym, ap, _∙_}
-use Prim.Native.Nat.{ℕ, zero, suc, _/_, _^_}
-use native.Mathlib.Nat.{pow-suc}
+use Prim.Native.Nat.{ℕ, zero, suc, _*_, _/_, _%_, _^_, _≤_, _<_}
+use native.Mathlib.Nat.{pow-suc, one-mul, mod-eq-of-lt, lt-of-lt-of-le}
 use native.Mathlib.Omega.{arith}
+use mathlib.Core.List.{List}
+use lib.ListN.{length}
+use lib.Pow.{pow-lt}
+use Rattle.letters.specs.Sizes.{SizedPattern}
 use Rattle.letters.specs.Digits.{digit}
 use Rattle.letters.specs.Letters.{member, meets}
 use Rattle.letters.proofs.Truth.{same-test}
@@ -35,3 +39,8 @@ meets-lone x b =
     let e = power-only b (w .0) (member-digit (w .0) (2 ^ b) (w .2)) in
     ap (λ (a : ℕ). member a x) (sym e) ∙ w .1)
     (λ y. some-meets x (2 ^ b) b y (digit-member b (2 ^ b) (power-self b)))
+
+-- the place of letter h, as code shifts it: a word has room for each
+pub place-word : {M : ℕ} {P : List ℕ} → SizedPattern M P → (h : ℕ) → h < length P → 2 ^ M ≤ 2 ^ 64 → 1 * 2 ^ h % 2 ^ 64 ≡ 2 ^ h
+place-word {M} w h l k =
+    ap (λ (x : ℕ). x % 2 ^ 64) (one-mul (2 ^ h)) ∙ mod-eq-of-lt (lt-of-lt-of-le (pow-lt (lt-of-lt-of-le l (w .short))) k)

@@ -1,4 +1,3 @@
 pub mod Last
 pub mod Tables
 pub mod Far
-pub mod Visits

@@ -1,31 +1,72 @@
--- What is worked out from the pattern beforehand: each table, by what its entries are.
-use Prim.Native.Nat.{ℕ, _-_, _^_, _≤_, _<_}
+-- What is worked out from the pattern beforehand, and what the engines need of it.
+--
+--   table n f           the n numbers f 0, f 1, ..
+--   surePrefix P        the length of P's longest prefix of single letters
+--   lastTable K P       for each of the first K base letters b, R({b}) + 1
+--   maskIn P b h        the places among P's first h whose letters have b, as a number: digit j stands for place j
+--   maskTable K P       for each of the first K base letters its row of places
+--   shiftTable M m b    for each h up to m the least s from 1 to m with b h s; 1 above, to M
+--   frontShifts M P     for each h the least shift of P by which its first h letters meet P itself, as far as it still covers them
+--   endShifts M P       for each g the same for its last g letters
+--   LastTable K P tab   tab has the entries of lastTable, whatever stands above them
+--   MaskTable K P rows  place j of row b has the digit that P's letter j has at b
+--   FrontShifts P tab   tab has the least shifts of P's beginnings
+--   EndShifts P tab     and of its ends
+use Prim.Native.Nat.{ℕ, zero, suc, _+_, _-_, _^_, _≤_, _<_}
 use mathlib.Core.Path.{_≡_}
-use mathlib.Core.List.{List}
+use mathlib.Core.Bool.{Bool, cond, not}
+use mathlib.Core.List.{List, [], _∷_}
+use lib.Bits.{bitOr}
 use lib.Dec.{leb}
 use lib.ListN.{length, getD}
 use Rattle.letters.specs.Digits.{digit}
+use Rattle.letters.specs.First.{firstWith}
+use Rattle.letters.specs.Letters.{member, single}
 use Rattle.shifts.specs.Least.{least}
-use Rattle.shifts.specs.Singles.{plain}
 use Rattle.shifts.specs.Shift.{selfFit}
 use Rattle.pattern.specs.Last.{afterR}
 
--- for each of the first K base letters b, R({b}) + 1
+unfoldable pub tableFrom : ℕ → ℕ → (ℕ → ℕ) → List ℕ
+tableFrom a zero f = []
+tableFrom a (suc n) f = f a ∷ tableFrom (suc a) n f
+
+unfoldable pub table : ℕ → (ℕ → ℕ) → List ℕ
+table n f = tableFrom 0 n f
+
+-- a letter of more members than one, or of none
+abbrev pub unsure : ℕ → Bool
+unsure c = not (single c)
+
+unfoldable pub surePrefix : List ℕ → ℕ
+surePrefix P = firstWith unsure P
+
+unfoldable pub lastTable : ℕ → List ℕ → List ℕ
+lastTable K P = table K (λ b. afterR P (2 ^ b))
+
+unfoldable pub maskIn : List ℕ → ℕ → ℕ → ℕ
+maskIn P b zero = 0
+maskIn P b (suc h) = cond (member b (getD P h 0)) (bitOr (maskIn P b h) (2 ^ h)) (maskIn P b h)
+
+unfoldable pub maskTable : ℕ → List ℕ → List ℕ
+maskTable K P = table K (λ b. maskIn P b (length P))
+
+unfoldable pub shiftTable : ℕ → ℕ → (ℕ → ℕ → Bool) → List ℕ
+shiftTable M m b = table (M + 1) (λ h. cond (leb h m) (least (b h) 1 (m - 1)) 1)
+
+unfoldable pub frontShifts : ℕ → List ℕ → List ℕ
+frontShifts M P = shiftTable M (length P) (λ h. selfFit P 0 h)
+
+unfoldable pub endShifts : ℕ → List ℕ → List ℕ
+endShifts M P = shiftTable M (length P) (λ g. selfFit P (length P - g) (length P))
+
 abbrev pub LastTable : ℕ → List ℕ → List ℕ → Type 0
 LastTable K P tab = (b : ℕ) → b < K → getD tab b 0 ≡ afterR P (2 ^ b)
 
--- for each of the first K base letters b a row of places: place j has the digit that P's letter j has at b
 abbrev pub MaskTable : ℕ → List ℕ → List ℕ → Type 0
 MaskTable K P rows = (b j : ℕ) → b < K → digit j (getD rows b 0) ≡ digit b (getD P j 0)
 
--- k is the length of P's longest prefix of single letters
-abbrev pub Sure : List ℕ → ℕ → Type 0
-Sure P k = (h : ℕ) → h ≤ length P → plain P 0 h ≡ leb h k
-
--- for each h the least shift of P by which its first h letters meet P itself, as far as it still covers them
 abbrev pub FrontShifts : List ℕ → List ℕ → Type 0
 FrontShifts P tab = (h : ℕ) → 0 < h → h ≤ length P → getD tab h 0 ≡ least (selfFit P 0 h) 1 (h - 1)
 
--- for each g the same for its last g letters
 abbrev pub EndShifts : List ℕ → List ℕ → Type 0
 EndShifts P tab = (g : ℕ) → g ≤ length P → getD tab g 0 ≡ least (selfFit P (length P - g) (length P)) 1 (length P - 1)

@@ -4,32 +4,29 @@ use letters::letter::lone;
 use letters::members::greatest;
 use letters::members::lowest;
 use letters::members::rest;
-use shifts::wide;
+use letters::width::index;
 ghost use mathlib.Core.Path.{_≡_};
 ghost use mathlib.Core.List.{List};
-ghost use Prim.Native.Nat.{ℕ, _≤_};
-ghost use lib.ListN.{length};
+ghost use Prim.Native.Nat.{ℕ, _^_, _<_};
+ghost use lib.ListN.{length, set};
+ghost use Rattle.letters.specs.Members.{members, walked};
 ghost use Rattle.pattern.specs.Last.{afterR};
-ghost use Rattle.pattern.specs.Tables.{LastTable, Sure};
-ghost use Rattle.pattern.specs.Visits.{Visited};
+ghost use Rattle.pattern.specs.Tables.{LastTable, surePrefix, lastTable};
 
 pub mod masks;
 pub mod tables;
 
-pub struct Pattern {
+pub struct Prepared {
     // the length of the longest prefix of single letters
     pub sure: usize,
     // for each base letter, one more than the last index of a letter that has it
-    pub lasts: [u32; 32],
+    pub lasts: [u32; Letter::MAX_K as usize],
 }
 
-impl Pattern {
-    // The longest pattern.
-    pub const MAX_M: usize = 64;
-
+impl Prepared {
     pub fn new(p: &[u32]) -> Self
-        requires { ⌜ length (now p) ≤ 64 ⌝ }
-        ensures { λ r. do ⌜ (Sure (now (p .entry)) (r .sure)) × (LastTable (← ⟦Letter::MAX_K⟧ .entry) (now (p .entry)) (r .lasts)) ⌝ }
+        requires { ⌜ length (now p) < 2 ^ 32 ⌝ }
+        ensures { λ r. do ⌜ (r .sure ≡ surePrefix (now (p .entry))) × (r .lasts ≡ lastTable (← ⟦Letter::MAX_K⟧ .entry) (now (p .entry))) ⌝ }
     {
         let sure = sure_of(p);
         let lasts = lasts_of(p);
@@ -39,7 +36,7 @@ impl Pattern {
 
 // The length of the longest prefix of single letters.
 fn sure_of(p: &[u32]) -> usize
-    ensures { λ r. ⌜ Sure (now (p .entry)) r ⌝ }
+    ensures { λ r. ⌜ r ≡ surePrefix (now (p .entry)) ⌝ }
 {
     let mut j = 0;
     while j < p.len() {
@@ -52,9 +49,8 @@ fn sure_of(p: &[u32]) -> usize
 }
 
 // Stores v at each member of c.
-fn store(tab: &mut [u32; 32], c: u32, v: u32)
-    requires { ⌜ length (now tab) ≡ 32 ⌝ }
-    ensures { λ _. do ⌜ Visited (← ⟦Letter::MAX_K⟧ .entry) (λ (_ : ℕ). v) c (now (tab .entry)) (now (tab .exit)) ⌝ }
+fn store(tab: &mut [u32; Letter::MAX_K as usize], c: u32, v: u32)
+    ensures { λ _. do ⌜ now (tab .exit) ≡ walked (λ x b. set x b v) (now (tab .entry)) (members (← ⟦Letter::MAX_K⟧ .entry) c) ⌝ }
 {
     let mut left = c;
     while left != 0 {
@@ -65,11 +61,11 @@ fn store(tab: &mut [u32; 32], c: u32, v: u32)
 }
 
 // The last positions, by one pass over the letters.
-fn lasts_of(p: &[u32]) -> [u32; 32]
-    requires { ⌜ length (now p) ≤ 64 ⌝ }
-    ensures { λ r. do ⌜ LastTable (← ⟦Letter::MAX_K⟧ .entry) (now (p .entry)) r ⌝ }
+fn lasts_of(p: &[u32]) -> [u32; Letter::MAX_K as usize]
+    requires { ⌜ length (now p) < 2 ^ 32 ⌝ }
+    ensures { λ r. do ⌜ r ≡ lastTable (← ⟦Letter::MAX_K⟧ .entry) (now (p .entry)) ⌝ }
 {
-    let mut tab = [0u32; 32];
+    let mut tab = [0u32; Letter::MAX_K as usize];
     let mut j: usize = 0;
     while j < p.len() {
         store(&mut tab, p[j], (j + 1) as u32);
@@ -79,8 +75,8 @@ fn lasts_of(p: &[u32]) -> [u32; 32]
 }
 
 // R(c) + 1, from the last positions: the greatest over the members of c.
-pub fn after_r(lasts: &[u32; 32], c: u32) -> usize
-    ensures { λ r. ⌜ ((P : List ℕ) → LastTable 32 P (now (lasts .entry)) → r ≡ afterR P c) ⌝ }
+pub fn after_r(lasts: &[u32; Letter::MAX_K as usize], c: u32) -> usize
+    ensures { λ r. do K ← ⟦Letter::MAX_K⟧ .entry; ⌜ ((P : List ℕ) → LastTable K P (now (lasts .entry)) → r ≡ afterR P c) ⌝ }
 {
-    wide(greatest(lasts, c))
+    index(greatest(lasts, c))
 }

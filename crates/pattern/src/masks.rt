@@ -2,23 +2,24 @@
 use letters::letter::Letter;
 use letters::members::lowest;
 use letters::members::rest;
+use letters::strings::Pattern;
 ghost use mathlib.Core.Path.{_≡_};
-ghost use Prim.Native.Nat.{ℕ, _≤_};
 ghost use lib.Bits.{bitOr};
-ghost use lib.ListN.{length};
-ghost use Rattle.pattern.specs.Tables.{MaskTable};
-ghost use Rattle.pattern.specs.Visits.{Visited};
+ghost use lib.ListN.{getD, set};
+ghost use Rattle.letters.specs.Members.{members, walked};
+ghost use Rattle.letters.specs.Sizes.{SizedPattern};
+ghost use Rattle.pattern.specs.Tables.{maskTable};
 
 pub struct Masks {
-    pub rows: [u64; 32],
+    pub rows: [u64; Letter::MAX_K as usize],
 }
 
 impl Masks {
     pub fn of(p: &[u32]) -> Self
-        requires { ⌜ length (now p) ≤ 64 ⌝ }
-        ensures { λ r. do ⌜ MaskTable (← ⟦Letter::MAX_K⟧ .entry) (now (p .entry)) (r .rows) ⌝ }
+        requires { do ⌜ SizedPattern (← ⟦Pattern::MAX_M⟧) (now p) ⌝ }
+        ensures { λ r. do ⌜ r .rows ≡ maskTable (← ⟦Letter::MAX_K⟧ .entry) (now (p .entry)) ⌝ }
     {
-        let mut rows = [0u64; 32];
+        let mut rows = [0u64; Letter::MAX_K as usize];
         let mut j: usize = 0;
         while j < p.len() {
             mark(&mut rows, p[j], 1u64 << j);
@@ -29,9 +30,8 @@ impl Masks {
 }
 
 // Brings a place into the row of each member of c.
-fn mark(rows: &mut [u64; 32], c: u32, place: u64)
-    requires { ⌜ length (now rows) ≡ 32 ⌝ }
-    ensures { λ _. do ⌜ Visited (← ⟦Letter::MAX_K⟧ .entry) (λ (x : ℕ). bitOr x place) c (now (rows .entry)) (now (rows .exit)) ⌝ }
+fn mark(rows: &mut [u64; Letter::MAX_K as usize], c: u32, place: u64)
+    ensures { λ _. do ⌜ now (rows .exit) ≡ walked (λ x b. set x b (bitOr (getD x b 0) place)) (now (rows .entry)) (members (← ⟦Letter::MAX_K⟧ .entry) c) ⌝ }
 {
     let mut left = c;
     while left != 0 {

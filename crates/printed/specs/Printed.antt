@@ -1,12 +1,22 @@
 -- What the program prints for a sheet: its report, or `refused NUMBER at PLACE` and LF.
-use Prim.Native.Nat.{ℕ}
+--
+--   refusedName, atName   the line's words, each with the space after it
+--   refusalLine           the line of a refusal
+--   reportOf              the report of a sheet, with room for any
+--   bytesFor, printed     what is printed, by the outcome of a report, and for a sheet
+--   PrintInto             the promise
+--   NoMore                 a list that was filled is as good as the whole input
+use Prim.Native.Nat.{ℕ, _≤_}
+use mathlib.Core.Path.{_≡_}
 use mathlib.Core.List.{List, [], _∷_, _++_}
-use lib.ListN.{length}
+use lib.ListN.{length, take}
 use Rattle.promise.specs.Promised.{Promised}
-use Rattle.hits.specs.Hits.{over}
-use Rattle.sheet.specs.Reader.{Outcome, found, refused}
+use Rattle.lent.specs.Over.{over}
+use Rattle.sheet.specs.Reader.{Outcome, found, refusal, andThen}
 use Rattle.decimal.specs.Decimal.{ended}
-use Rattle.report.specs.Report.{reportFor}
+use Rattle.reportbytes.specs.Bytes.{bytesOf}
+use Rattle.report.specs.Values.{valuesOf}
+use Rattle.report.specs.Report.{readAlone}
 
 -- `refused ` and `at `
 abbrev pub refusedName : List ℕ
@@ -20,13 +30,20 @@ refusalLine number place = refusedName ++ (ended number 32 ++ (atName ++ ended p
 
 abbrev pub bytesFor : Outcome (List ℕ) → List ℕ
 bytesFor (found bytes) = bytes
-bytesFor (refused number place) = refusalLine number place
+bytesFor (refusal number place) = refusalLine number place
 
--- with room for so many bytes; B, K, M and N are the largest sheet, k, m and n
-unfoldable pub printed : ℕ → ℕ → ℕ → ℕ → ℕ → List ℕ → List ℕ
-printed B K M N room s = bytesFor (reportFor B K M N s room)
+-- the report of the sheet s, or what the reader refuses: here there is room for any report
+unfoldable pub reportOf : ℕ → ℕ → ℕ → ℕ → List ℕ → Outcome (List ℕ)
+reportOf B K M N s = andThen (readAlone B K M N s) (λ w. found (bytesOf (valuesOf (w .pattern) (w .text))))
+
+-- B, K, M and N are the largest sheet, k, m and n
+unfoldable pub printed : ℕ → ℕ → ℕ → ℕ → List ℕ → List ℕ
+printed B K M N s = bytesFor (reportOf B K M N s)
 
 -- the bytes for the sheet s over the front of the lent list d, which holds `after` afterwards; n is how many they are
 abbrev pub PrintInto : ℕ → ℕ → ℕ → ℕ → List ℕ → List ℕ → ℕ → List ℕ → Type 0
-PrintInto B K M N s d n after =
-    Promised (length (printed B K M N (length d) s)) (over (printed B K M N (length d) s) d) n after
+PrintInto B K M N s d n after = Promised (length (printed B K M N s)) (over (printed B K M N s) d) n after
+
+-- a list that was filled is as good as the whole input: whatever follows it, the same is printed
+abbrev pub NoMore : ℕ → ℕ → ℕ → ℕ → List ℕ → ℕ → Type 0
+NoMore B K M N list n = (rest : List ℕ) → length list ≤ n → printed B K M N (list ++ rest) ≡ printed B K M N (take n list)

@@ -4,7 +4,6 @@ pub mod SetLaws
 pub mod PrimeLaws
 pub mod TableLaws
 pub mod CheckLaws
-pub mod WriteLaws
 pub mod RoundTrip
 pub mod MeetingLaws
 pub mod Examples

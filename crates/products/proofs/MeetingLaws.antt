@@ -1,20 +1,27 @@
--- Two products meet exactly if their letters do (source document 000, lemma 5). Assumes nothing.
-use mathlib.Core.Path.{_≡_, sym, ap, _∙_}
-use mathlib.Core.Bool.{true}
-use Prim.Native.Nat.{ℕ, _^_, _<_}
+-- Two products meet exactly if their letters do (Dehghani, Lecroq, Mhaskar, Smyth, lemma 5); and what C is told of it. Assumes nothing.
+use mathlib.Core.Path.{_≡_, refl, sym, ap, _∙_}
+use mathlib.Core.Bool.{Bool, true}
+use Prim.Native.Nat.{ℕ, _^_, _≤_, _<_}
 use native.Mathlib.Nat.{le-trans}
 use native.Mathlib.Omega.{arith}
 use borrow.Author.Tests.{lt-ltb, ltb-true, ltb-false}
 use lib.Dec.{ltb}
+use lib.IntN.{ℤ, pos}
+use Rattle.promise.specs.Promised.{Promised}
+use Rattle.hits.specs.Counts.{tally}
 use Rattle.letters.specs.Digits.{digit}
 use Rattle.letters.specs.Letters.{member, meets}
 use Rattle.letters.proofs.Truth.{same-test, bool-cases}
 use Rattle.letters.proofs.DigitLaws.{digit-above}
 use Rattle.letters.proofs.LetterLaws.{member-digit, digit-member, meets-some, some-meets}
-use Rattle.inputs.specs.declared.refusal.Check.the-variants.{Passed}
+use Rattle.inputs.specs.declared.refusal.Check.{Check}
+use Rattle.inputs.specs.declared.refusal.Check.the-variants.{Passed, Refused}
+use Rattle.codes.specs.Codes.{refusedCode, codeOf}
 use Rattle.products.specs.Primes.{prime, productOf, letterOf}
 use Rattle.products.specs.Gcd.{gcd}
-use Rattle.products.specs.Meetings.{productsMeet, pairVerdict}
+use Rattle.products.specs.Meetings.{productsMeet, pairVerdict, meetingOf}
+use Rattle.products.specs.declared.meeting.Meeting.{Meeting}
+use Rattle.products.specs.declared.meeting.Meeting.the-variants.{Known, Refused as MeetingRefused}
 use Rattle.products.proofs.Divisors.{trans, divides-le, divides-pos}
 use Rattle.products.proofs.GcdLaws.{is-gcd}
 use Rattle.products.proofs.PrimeLaws.{prime-at, product-pos, member-prime, prime-member, divisor-member, product-again, letter-lt}
@@ -54,9 +61,22 @@ products-meet c d h =
     lt-ltb 1 (gcd (productOf c) (productOf d)) (shares-exceeds c d (w .0) (member-nine c (w .0) h x) x (member-digit (w .0) d (w .2))))
 
 -- two values that are accepted meet exactly if their letters do
-pub values-meet : (L k a b : ℕ) → pairVerdict L 9 k a b ≡ Passed → productsMeet a b ≡ meets (letterOf a) (letterOf b)
-values-meet L k a b e =
-    let p = pair L 9 k a b e in
-    let x = product-again k (p .fits) a (p .first) in
-    let y = product-again k (p .fits) b (p .second) in
+pub values-meet : (L K k a b : ℕ) → K ≤ 9 → pairVerdict L K k a b ≡ Passed → productsMeet a b ≡ meets (letterOf a) (letterOf b)
+values-meet L K k a b nine e =
+    let p = pair L K k a b e in
+    let few = le-trans (p .fits) nine in
+    let x = product-again k few a (p .first) in
+    let y = product-again k few b (p .second) in
     ap (λ (v : ℕ). productsMeet v b) (sym x) ∙ ap (λ (v : ℕ). productsMeet (productOf (letterOf a)) v) (sym y) ∙ products-meet (letterOf a) (letterOf b) (letter-lt a)
+
+-- ---- the call from C
+abbrev pub meetingCode : Meeting → ℤ
+meetingCode (MeetingRefused r) = refusedCode r
+meetingCode (Known b) = pos (tally b)
+
+pub meet-told : (v : Check) (b : Bool) (m : Meeting) (r : ℤ) → Promised {B = Unit {0}} (meetingOf v b) tt m tt → r ≡ meetingCode m → Promised {B = Unit {0}} (codeOf v (tally b)) tt r tt
+meet-told v b m r p e = record { answers = e ∙ ap meetingCode (p .answers) ∙ same v; leaves = refl }
+  where
+    same : (v : Check) → meetingCode (meetingOf v b) ≡ codeOf v (tally b)
+    same (Refused q) = refl
+    same Passed = refl

@@ -1,29 +1,29 @@
--- The two conversions: what they refuse, what they answer, and what they leave in lent memory.
+-- The two conversions: what they refuse, and what they answer and leave in lent memory.
 -- L is the largest alphabet, K the largest for products, N the longest string.
-use Prim.Native.Nat.{ℕ, suc}
-use mathlib.Core.Bool.{cond, _||_}
-use mathlib.Core.List.{List, [], _∷_, map}
-use lib.Dec.{eqb, ltb}
+--
+--   alphabetThen     checks 1 and 6, then those that are left
+--   sizesThen        checks 1, 6 and 3, then those that are left
+--   elements         the check of the elements, then 8
+--   convertVerdict   the checks of a conversion of elements, of which some are wrong
+--   toVerdict, fromVerdict     the checks of letters that are to be products, and of products that are to be letters
+--   ToProducts, FromProducts   the promises of the two
+use Prim.Native.Nat.{ℕ}
+use mathlib.Core.Bool.{Bool}
+use mathlib.Core.List.{List, map}
+use lib.Dec.{ltb}
 use lib.ListN.{length}
-use Rattle.promise.specs.Promised.{Promised}
-use Rattle.inputs.specs.Refusals.{refuse, firstBad}
-use Rattle.inputs.specs.Answers.{listOf}
+use Rattle.letters.specs.First.{firstWith}
+use Rattle.letters.specs.Sizes.{outside}
+use Rattle.inputs.specs.Refusals.{bad, refuse}
+use Rattle.inputs.specs.Answers.{WrittenInto}
 use Rattle.inputs.specs.declared.refusal.Check.{Check}
-use Rattle.inputs.specs.declared.refusal.Check.the-variants.{Passed, Refused}
-use Rattle.products.specs.Primes.{productOf, letterOf, isProduct}
-use Rattle.products.specs.declared.convert.Converted.{Converted}
-use Rattle.products.specs.declared.convert.Converted.the-variants.{Done, Refused as ConvertedRefused}
+use Rattle.inputs.specs.declared.refusal.Check.the-variants.{Passed}
+use Rattle.inputs.specs.declared.refusal.Written.{Written}
+use Rattle.products.specs.Primes.{productOf, letterOf, other}
 
--- the lowest index of a value that is no product for k, or the length where there is none
-unfoldable pub firstOther : ℕ → List ℕ → ℕ
-firstOther k [] = 0
-firstOther k (v ∷ vs) = cond (isProduct k v) (suc (firstOther k vs)) 0
-
--- checks 1 and 6, then those that are left
 unfoldable pub alphabetThen : ℕ → ℕ → ℕ → Check → Check
-alphabetThen L K k rest = refuse (eqb k 0 || ltb L k) 1 0 (refuse (ltb K k) 6 0 rest)
+alphabetThen L K k rest = refuse (outside 1 L k) 1 0 (refuse (ltb K k) 6 0 rest)
 
--- checks 1, 6 and 3 of n elements, then those that are left
 unfoldable pub sizesThen : ℕ → ℕ → ℕ → ℕ → ℕ → Check → Check
 sizesThen L K N k n rest = alphabetThen L K k (refuse (ltb N n) 3 0 rest)
 
@@ -31,26 +31,18 @@ sizesThen L K N k n rest = alphabetThen L K k (refuse (ltb N n) 3 0 rest)
 abbrev pub elements : ℕ → ℕ → ℕ → ℕ → Check
 elements number place n room = refuse (ltb place n) number place (refuse (ltb room n) 8 0 Passed)
 
-unfoldable pub verdict : ℕ → ℕ → ℕ → ℕ → ℕ → ℕ → ℕ → ℕ → Check
-verdict L K N k number place n room = sizesThen L K N k n (elements number place n room)
+unfoldable pub convertVerdict : ℕ → ℕ → ℕ → ℕ → ℕ → (ℕ → Bool) → List ℕ → ℕ → Check
+convertVerdict L K N k number wrong xs room = sizesThen L K N k (length xs) (elements number (firstWith wrong xs) (length xs) room)
 
 unfoldable pub toVerdict : ℕ → ℕ → ℕ → ℕ → List ℕ → ℕ → Check
-toVerdict L K N k cs room = verdict L K N k 5 (firstBad k cs) (length cs) room
+toVerdict L K N k cs room = convertVerdict L K N k 5 (bad k) cs room
 
 unfoldable pub fromVerdict : ℕ → ℕ → ℕ → ℕ → List ℕ → ℕ → Check
-fromVerdict L K N k vs room = verdict L K N k 7 (firstOther k vs) (length vs) room
+fromVerdict L K N k vs room = convertVerdict L K N k 7 (other k) vs room
 
--- the refusal's number and place; or the length of the result
-abbrev pub convertedOf : Check → List ℕ → Converted
-convertedOf (Refused r) ys = ConvertedRefused r
-convertedOf Passed ys = Done (length ys)
+-- d is the lent memory before, `left` afterwards
+abbrev pub ToProducts : ℕ → ℕ → ℕ → ℕ → List ℕ → List ℕ → Written → List ℕ → Type 0
+ToProducts L K N k cs d r left = WrittenInto (toVerdict L K N k cs (length d)) (map productOf cs) d r left
 
--- letters converted to products. d is the lent memory before, `left` afterwards
-abbrev pub ToProducts : ℕ → ℕ → ℕ → ℕ → List ℕ → List ℕ → Converted → List ℕ → Type 0
-ToProducts L K N k cs d r left =
-    Promised (convertedOf (toVerdict L K N k cs (length d)) (map productOf cs)) (listOf (toVerdict L K N k cs (length d)) (map productOf cs) d) r left
-
--- products converted to letters
-abbrev pub FromProducts : ℕ → ℕ → ℕ → ℕ → List ℕ → List ℕ → Converted → List ℕ → Type 0
-FromProducts L K N k vs d r left =
-    Promised (convertedOf (fromVerdict L K N k vs (length d)) (map letterOf vs)) (listOf (fromVerdict L K N k vs (length d)) (map letterOf vs) d) r left
+abbrev pub FromProducts : ℕ → ℕ → ℕ → ℕ → List ℕ → List ℕ → Written → List ℕ → Type 0
+FromProducts L K N k vs d r left = WrittenInto (fromVerdict L K N k vs (length d)) (map letterOf vs) d r left

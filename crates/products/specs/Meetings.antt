@@ -1,12 +1,12 @@
--- Whether two products meet: their greatest common divisor exceeds 1 (source document 000, lemma 5).
+-- Whether two products meet: their greatest common divisor exceeds 1 (H. Dehghani, T. Lecroq, N. Mhaskar, W. F. Smyth: Practical KMP/BM Style Pattern-Matching on Indeterminate Strings, lemma 5).
 use Prim.Native.Nat.{ℕ}
-use mathlib.Core.Bool.{Bool, not}
+use mathlib.Core.Bool.{Bool}
 use lib.Dec.{ltb}
 use Rattle.promise.specs.Promised.{Promised}
 use Rattle.inputs.specs.Refusals.{refuse}
 use Rattle.inputs.specs.declared.refusal.Check.{Check}
 use Rattle.inputs.specs.declared.refusal.Check.the-variants.{Passed, Refused}
-use Rattle.products.specs.Primes.{isProduct}
+use Rattle.products.specs.Primes.{other}
 use Rattle.products.specs.Gcd.{gcd}
 use Rattle.products.specs.Conversions.{alphabetThen}
 use Rattle.products.specs.declared.meeting.Meeting.{Meeting}
@@ -16,8 +16,8 @@ use Rattle.products.specs.declared.meeting.Meeting.the-variants.{Known, 
 unfoldable pub pairVerdict : ℕ → ℕ → ℕ → ℕ → ℕ → Check
 pairVerdict L K k a b =
     alphabetThen L K k
-    (refuse (not (isProduct k a)) 7 0
-    (refuse (not (isProduct k b)) 7 1
+    (refuse (other k a) 7 0
+    (refuse (other k b) 7 1
     Passed))
 
 unfoldable pub productsMeet : ℕ → ℕ → Bool

@@ -1,4 +1,4 @@
--- Prime products: base letter b stands for the prime at b, and a letter is the product of its members' primes (source document 000, rule (R)).
+-- Prime products: base letter b stands for the prime at b, and a letter is the product of its members' primes (H. Dehghani, T. Lecroq, N. Mhaskar, W. F. Smyth: Practical KMP/BM Style Pattern-Matching on Indeterminate Strings, rule (R)).
 --
 --   primes           the nine primes
 --   product xs       the product of these numbers
@@ -7,10 +7,11 @@
 --   firstProduct k   the product of the first k primes
 --   divides d n      d divides n
 --   isProduct k v    the value v is a product for k
+--   other k v        it is none
 --   letterOf v       the letter whose members are the base letters whose primes divide v
 use Prim.Native.Nat.{ℕ, _+_, _*_, _%_, _^_, _<_}
 use mathlib.Core.Path.{_≡_}
-use mathlib.Core.Bool.{Bool, _&&_}
+use mathlib.Core.Bool.{Bool, not, _&&_}
 use mathlib.Core.List.{List, [], _∷_, map}
 use lib.Dec.{eqb, ltb}
 use lib.ListN.{getD, take}
@@ -42,6 +43,9 @@ divides d n = eqb (n % d) 0
 
 unfoldable pub isProduct : ℕ → ℕ → Bool
 isProduct k v = ltb 1 v && divides v (firstProduct k)
+
+unfoldable pub other : ℕ → ℕ → Bool
+other k v = not (isProduct k v)
 
 -- the letter whose member b is there exactly if the number at b divides v
 unfoldable pub dividing : List ℕ → ℕ → ℕ

@@ -2,30 +2,24 @@
 use crate::product::Product;
 use crate::product::first_product;
 use crate::product::is_product;
-use inputs::checks::Text;
 use inputs::checks::first_bad;
 use inputs::refusal::Check;
-use inputs::refusal::Refusal;
+use inputs::refusal::refused;
 use letters::letter::Letter;
+use letters::limits::is_outside;
+use letters::strings::Text;
 ghost use mathlib.Core.Path.{_≡_};
 ghost use Prim.Native.Nat.{_≤_};
-ghost use Rattle.products.specs.Conversions.{firstOther, alphabetThen, sizesThen, elements, toVerdict, fromVerdict};
+ghost use Rattle.letters.specs.First.{firstWith};
+ghost use Rattle.products.specs.Primes.{other};
+ghost use Rattle.products.specs.Conversions.{alphabetThen, sizesThen, elements, toVerdict, fromVerdict};
 ghost use Rattle.products.specs.Meetings.{pairVerdict};
-
-fn refused(number: u32, place: usize) -> Check
-    ensures { λ r. ⌜ r ≡ Check.Refused (record { number = number; place = place }) ⌝ }
-{
-    Check::Refused(Refusal { number, place })
-}
 
 // Checks 1 and 6.
 pub(crate) fn check_alphabet(k: u32) -> Check
     ensures { λ r. do ⌜ r ≡ alphabetThen (← ⟦Letter::MAX_K⟧ .entry) (← ⟦Product::MAX_K⟧ .entry) k Check.Passed ⌝ }
 {
-    if k == 0 {
-        return refused(1, 0);
-    }
-    if Letter::MAX_K < k {
+    if is_outside(k as usize, 1, Letter::MAX_K as usize) {
         return refused(1, 0);
     }
     if Product::MAX_K < k {
@@ -36,8 +30,8 @@ pub(crate) fn check_alphabet(k: u32) -> Check
 
 // The lowest index of a value that is no product for k, or the length.
 pub(crate) fn first_other(k: u32, values: &[u32]) -> usize
-    requires { ⌜ k ≤ 9 ⌝ }
-    ensures { λ r. ⌜ r ≡ firstOther k (now (values .entry)) ⌝ }
+    requires { do ⌜ k ≤ (← ⟦Product::MAX_K⟧) ⌝ }
+    ensures { λ r. ⌜ r ≡ firstWith (other k) (now (values .entry)) ⌝ }
 {
     let full = first_product(k);
     let mut i = 0;

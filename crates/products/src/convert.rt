@@ -4,27 +4,22 @@ use crate::checks::check_products;
 use crate::product::Product;
 use crate::product::letter_of;
 use crate::table::table;
-use inputs::checks::Text;
 use inputs::refusal::Check;
-use inputs::refusal::Refusal;
+use inputs::refusal::Written;
 use letters::letter::Letter;
+use letters::strings::Text;
 ghost use mathlib.Core.Path.{_≡_};
 ghost use mathlib.Core.List.{map};
-ghost use Prim.Native.Nat.{ℕ, _≤_, _<_, _^_};
-ghost use lib.ListN.{length, getD};
-ghost use Rattle.hits.specs.Hits.{over};
+ghost use Prim.Native.Nat.{_≤_};
+ghost use lib.ListN.{length};
+ghost use Rattle.letters.specs.Sizes.{Below};
+ghost use Rattle.lent.specs.Over.{over};
 ghost use Rattle.products.specs.Primes.{productOf, letterOf};
 ghost use Rattle.products.specs.Conversions.{ToProducts, FromProducts};
 
-// What a conversion answers: the length of the result, or the refusal.
-pub enum Converted {
-    Done(usize),
-    Refused(Refusal),
-}
-
 // Each letter's product, over the front of the lent memory.
 fn write_products(letters: &[u32], products: &mut [u32])
-    requires { ⌜ (length (now letters) ≤ length (now products)) × ((i : ℕ) → i < length (now letters) → getD (now letters) i 0 < 2 ^ 9) ⌝ }
+    requires { do ⌜ (length (now letters) ≤ length (now products)) × Below (← ⟦Product::MAX_K⟧) (now letters) ⌝ }
     ensures { λ _. ⌜ now (products .exit) ≡ over (map productOf (now (letters .entry))) (now (products .entry)) ⌝ }
 {
     let entries = table();
@@ -49,27 +44,27 @@ fn write_letters(products: &[u32], letters: &mut [u32])
 }
 
 // The letters, over an alphabet of k, as products.
-pub fn to_products(k: u32, letters: &[u32], products: &mut [u32]) -> Converted
+pub fn to_products(k: u32, letters: &[u32], products: &mut [u32]) -> Written
     ensures { λ r. do ⌜ ToProducts (← ⟦Letter::MAX_K⟧ .entry) (← ⟦Product::MAX_K⟧ .entry) (← ⟦Text::MAX_N⟧ .entry) k (now (letters .entry)) (now (products .entry)) r (now (products .exit)) ⌝ }
 {
     match check_letters(k, letters, products.len()) {
-        Check::Refused(r) => Converted::Refused(r),
+        Check::Refused(r) => Written::Refused(r),
         Check::Passed => {
             write_products(letters, products);
-            Converted::Done(letters.len())
+            Written::Wrote(letters.len())
         }
     }
 }
 
 // The products, for an alphabet of k, as letters.
-pub fn from_products(k: u32, products: &[u32], letters: &mut [u32]) -> Converted
+pub fn from_products(k: u32, products: &[u32], letters: &mut [u32]) -> Written
     ensures { λ r. do ⌜ FromProducts (← ⟦Letter::MAX_K⟧ .entry) (← ⟦Product::MAX_K⟧ .entry) (← ⟦Text::MAX_N⟧ .entry) k (now (products .entry)) (now (letters .entry)) r (now (letters .exit)) ⌝ }
 {
     match check_products(k, products, letters.len()) {
-        Check::Refused(r) => Converted::Refused(r),
+        Check::Refused(r) => Written::Refused(r),
         Check::Passed => {
             write_letters(products, letters);
-            Converted::Done(products.len())
+            Written::Wrote(products.len())
         }
     }
 }

@@ -23,12 +23,12 @@ impl Product {
     }
 }
 
-// The product of the first k primes, at k.
+// The product of the first k primes, at k, for all nine.
 const FIRST: [u32; 10] = [1, 2, 6, 30, 210, 2310, 30030, 510510, 9699690, 223092870];
 
 // The product of the first k primes.
 pub(crate) fn first_product(k: u32) -> u32
-    requires { ⌜ k ≤ 9 ⌝ }
+    requires { do ⌜ k ≤ (← ⟦Product::MAX_K⟧) ⌝ }
     ensures { λ r. ⌜ r ≡ firstProduct k ⌝ }
 {
     FIRST[k as usize]

@@ -1,144 +1,109 @@
--- How long the report of an accepted sheet can be: its text has fewer than 8,192 letters, so a start has 4 digits at most, and no count more than 6. Assumes nothing.
-use Prim.Native.Nat.{ℕ, zero, suc, _+_, _-_, _*_, _^_, _≤_, _<_}
+-- How long the report of an accepted sheet can be, by the largest sheet and the longest pattern. Assumes nothing.
+use Prim.Native.Nat.{ℕ, zero, suc, _+_, _-_, _*_, _/_, _%_, _^_, _≤_, _<_}
 use mathlib.Core.Path.{_≡_, refl, ap, _∙_}
-use mathlib.Core.Bool.{Bool}
-use mathlib.Core.List.{List, [], _∷_, _++_}
-use native.Mathlib.Nat.{mul-suc, mul-le-mul-left, mul-le-mul-right}
+use mathlib.Core.List.{List, [], _∷_, _++_, map}
+use native.Mathlib.Nat.{pow-suc}
 use native.Mathlib.Omega.{arith}
+use borrow.Author.Tests.{ltb-true, ltb-false}
+use lib.Dec.{ltb}
 use lib.ListN.{length, length-append}
+use Rattle.letters.specs.Sizes.{Sized}
 use Rattle.letters.proofs.Truth.{bool-cases}
 use Rattle.hits.specs.Hits.{hitAt, hitsFrom, hits}
-use Rattle.hits.specs.Turns.{Turn, Run, idle, after, run}
-use Rattle.hits.proofs.HitLaws.{from-add, from-enough, length-hits}
-use Rattle.hits.proofs.RunLaws.{run-stop, run-on}
-use Rattle.inputs.specs.Refusals.{verdict}
-use Rattle.inputs.specs.declared.refusal.Check.the-variants.{Passed}
-use Rattle.inputs.proofs.CheckLaws.{sized}
-use Rattle.brute.specs.Brute.{bruteTurn, bruteRun}
-use Rattle.brute.proofs.BruteLaws.{brute-scan}
-use Rattle.kmp.specs.Kmp.{At, kmpTurn, kmpRun}
-use Rattle.bm.specs.Bm.{bmTurn, bmRun}
-use Rattle.sunday.specs.Sunday.{sundayTurn, sundayRun}
-use Rattle.sunday.proofs.SundayLaws.{sunday-scan}
-use Rattle.shiftand.specs.ShiftAnd.{shiftandRun}
-use Rattle.shiftand.proofs.ShiftAndLaws.{shiftand-scan, shiftand-shift, shiftand-small}
-use Rattle.hybrid.specs.Hybrid.{hybridRun}
-use Rattle.hybrid.proofs.HybridLaws.{no-shift, hybrid-scan, hybrid-steps}
-use Rattle.decimal.specs.Decimal.{ended}
-use Rattle.reportbytes.specs.Bytes.{startLines, counts, engineLines, bytesOf}
-use Rattle.decimal.proofs.DecimalLaws.{ended-short}
-use Rattle.reportbytes.proofs.LineLaws.{counts-length, engines-length, bytes-length}
+use Rattle.hits.proofs.HitLaws.{from-enough, length-hits}
+use Rattle.decimal.specs.Decimal.{decimalTo, decimal, ended}
+use Rattle.decimal.proofs.DecimalLaws.{dec-small, dec-more, ended-length, ended-short}
+use Rattle.engines.specs.declared.engine.Engine.{Engine}
+use Rattle.engines.specs.Engines.{theSix, runOf}
+use Rattle.engines.proofs.CountLaws.{mostOf, counts-within}
+use Rattle.reportbytes.specs.Bytes.{startLines, engineLine, engineLines, bytesOf}
+use Rattle.reportbytes.proofs.LineLaws.{counts-length, engine-length, bytes-length}
 use Rattle.report.specs.Values.{valuesOf}
-use Rattle.kmp.proofs.KmpLaws as kmp
-use Rattle.bm.proofs.BmLaws as bm
 
--- a rule whose turns never add to a count
-module _ {S : Type 0} (more : S → Bool) (turn : S → Turn S) (cost : Run → ℕ) (own : Turn S → ℕ) (none : cost idle ≡ 0) (adds : (t : Turn S) (r : Run) → cost (after t r) ≡ own t + cost r) (free : (s : S) → own (turn s) ≡ 0) where
-  run-none : (f : ℕ) (s : S) → cost (run more turn f s) ≡ 0
-  unfolding run
-  run-none zero s = none
-  run-none (suc f) s =
-      bool-cases (more s)
-      (λ y. ap cost (run-on more turn f s y) ∙ adds (turn s) (run more turn f (turn s .next)) ∙ (let a = free s in let b = run-none f (turn s .next) in omega arith))
-      (λ n. ap cost (run-stop more turn (suc f) s n) ∙ none)
+-- a larger number has no fewer digits
+digits-more : (f n m : ℕ) → n ≤ m → length (decimalTo f n) ≤ length (decimalTo f m)
+unfolding decimalTo
+digits-more zero n m h = omega arith
+digits-more (suc f) n m h =
+    let last : (x : ℕ) → length (decimalTo f (x / 10) ++ ((48 + x % 10) ∷ [])) ≡ length (decimalTo f (x / 10)) + 1 = λ x. length-append (decimalTo f (x / 10)) ((48 + x % 10) ∷ []) in
+    bool-cases (ltb n 10)
+    (λ y. let a = ltb-true n 10 y in
+    bool-cases (ltb m 10)
+    (λ z. omega (arith, ap length (dec-small f n a), ap length (dec-small f m (ltb-true m 10 z))))
+    (λ z. omega (arith, ap length (dec-small f n a), ap length (dec-more f m (ltb-false m 10 z)), last m)))
+    (λ y. let a = ltb-false n 10 y in
+    omega (arith, ap length (dec-more f n a), ap length (dec-more f m (omega arith)), last n, last m, digits-more f (n / 10) (m / 10) (omega arith)))
 
-module _ (P T : List ℕ) where
-  brute-shift : bruteRun P T .shift ≡ 0
-  unfolding bruteRun bruteTurn
-  brute-shift = run-none _ _ (λ (r : Run). r .shift) (λ (t : Turn ℕ). t .shift) refl (λ t r. refl) (λ s. refl) (suc (length T)) 0
+ended-more : (n m b : ℕ) → n ≤ m → length (ended n b) ≤ length (ended m b)
+unfolding decimal
+ended-more n m b h = omega (arith, ended-length n b, ended-length m b, digits-more 20 n m h)
 
-  brute-steps : bruteRun P T .steps ≡ 0
-  unfolding bruteRun bruteTurn
-  brute-steps = run-none _ _ (λ (r : Run). r .steps) (λ (t : Turn ℕ). t .steps) refl (λ t r. refl) (λ s. refl) (suc (length T)) 0
+-- the bytes of a line for each start below c: a digit and LF; and a digit more for those from 10 on, from 100 on, to the power w of 10
+unfoldable pub sizes : ℕ → ℕ → ℕ
+sizes zero c = 2 * c
+sizes (suc w) c = sizes w c + (c - 10 ^ suc w)
 
-  kmp-steps : kmpRun P T .steps ≡ 0
-  unfolding kmpRun kmpTurn
-  kmp-steps = run-none _ _ (λ (r : Run). r .steps) (λ (t : Turn At). t .steps) refl (λ t r. refl) (λ s. refl) (suc (length T)) _
+sizes-full : (w a : ℕ) → 10 ^ w ≤ a → sizes w a + (w + 2) ≤ sizes w (suc a)
+unfolding sizes
+sizes-full zero a h = omega arith
+sizes-full (suc w) a h = omega (arith, sizes-full w a (omega (arith, pow-suc 10 w)))
 
-  bm-steps : bmRun P T .steps ≡ 0
-  unfolding bmRun bmTurn
-  bm-steps = run-none _ _ (λ (r : Run). r .steps) (λ (t : Turn ℕ). t .steps) refl (λ t r. refl) (λ s. refl) (suc (length T)) 0
-
-  sunday-shift : sundayRun P T .shift ≡ 0
-  unfolding sundayRun sundayTurn
-  sunday-shift = run-none _ _ (λ (r : Run). r .shift) (λ (t : Turn ℕ). t .shift) refl (λ t r. refl) (λ s. refl) (suc (length T)) 0
-
-  sunday-steps : sundayRun P T .steps ≡ 0
-  unfolding sundayRun sundayTurn
-  sunday-steps = run-none _ _ (λ (r : Run). r .steps) (λ (t : Turn ℕ). t .steps) refl (λ t r. refl) (λ s. refl) (suc (length T)) 0
-
-  hybrid-shift : 0 < length P → hybridRun P T .shift ≡ 0
-  unfolding hybridRun
-  hybrid-shift p = run-none _ _ (λ (r : Run). r .shift) (λ (t : Turn ℕ). t .shift) refl (λ t r. refl) (no-shift P T p) (suc (length T)) 0
-
--- an engine's line, by the digits of its counts
-counts-most : (a b c : ℕ) (r : Run) → (0 < a) × (a ≤ 20) → (0 < b) × (b ≤ 20) → (0 < c) × (c ≤ 20)
-    → r .scan < 10 ^ a → r .shift < 10 ^ b → r .steps < 10 ^ c → length (counts r) ≤ a + b + c + 3
-counts-most a b c r ha hb hc x y z =
-    omega (arith, counts-length r, ended-short a (r .scan) 32 x (ha .0) (ha .1), ended-short b (r .shift) 32 y (hb .0) (hb .1), ended-short c (r .steps) 10 z (hc .0) (hc .1))
-
-starts-length : (xs ys : List ℕ) → length (startLines (xs ++ ys)) ≡ length (startLines xs) + length (startLines ys)
-unfolding startLines
-starts-length [] ys = omega arith
-starts-length (x ∷ xs) ys =
-    omega (arith, length-append (ended x 10) (startLines (xs ++ ys)), length-append (ended x 10) (startLines xs), starts-length xs ys)
+sizes-one : (w a : ℕ) → w < 20 → a < 10 ^ suc w → length (ended a 10) + sizes w a ≤ sizes w (suc a)
+unfolding sizes
+sizes-one zero a l h = omega (arith, ended-short 1 a 10 h (omega arith) (omega arith))
+sizes-one (suc w) a l h =
+    bool-cases (ltb a (10 ^ suc w))
+    (λ y. omega (arith, sizes-one w a (omega arith) (ltb-true a (10 ^ suc w) y)))
+    (λ n. omega (arith, sizes-full (suc w) a (ltb-false a (10 ^ suc w) n), ended-short (suc (suc w)) a 10 h (omega arith) (omega arith)))
 
 module _ (P T : List ℕ) where
-  -- starts of w digits at most
-  lines-from : (w c a : ℕ) → 0 < w → w ≤ 20 → a + c ≤ 10 ^ w → length (startLines (hitsFrom P T c a)) ≤ (w + 1) * c
+  lines-from : (c a : ℕ) → a + c ≤ 10 ^ 20 → length (startLines (hitsFrom P T c a)) + sizes 19 a ≤ sizes 19 (a + c)
   unfolding hitsFrom startLines
-  lines-from w zero a p l h = omega arith
-  lines-from w (suc c) a p l h =
-      let ih = lines-from w c (suc a) p l (omega arith) in
-      let q = mul-suc (w + 1) c in
-      bool-cases (hitAt P T a)
-      (λ y. rw y (omega (arith, length-append (ended a 10) (startLines (hitsFrom P T c (suc a))), ended-short w a 10 (omega arith) p l)))
-      (λ n. rw n (omega arith))
+  lines-from zero a h = let z : a + zero ≡ a = omega arith in rw z (omega arith)
+  lines-from (suc c) a h =
+      let z : a + suc c ≡ suc a + c = omega arith in
+      let ih = lines-from c (suc a) (omega arith) in
+      let one = sizes-one 19 a (omega arith) (omega arith) in
+      rw z
+      (bool-cases (hitAt P T a)
+      (λ y. rw y (omega (arith, ih, one, length-append (ended a 10) (startLines (hitsFrom P T c (suc a))))))
+      (λ n. rw n (omega (arith, ih, one))))
 
-  -- 10 starts of one digit, 90 of two, 900 of three, and the rest of four
-  starts-most : length T < 8192 → length (startLines (hits P T)) ≤ 39850
+  starts-most : (B : ℕ) → length T < B → B ≤ 10 ^ 20 → length (startLines (hits P T)) ≤ sizes 19 B
   unfolding hits
-  starts-most h =
-      let e0 : hitsFrom P T (suc (length T)) 0 ≡ hitsFrom P T 8192 0 = from-enough P T (suc (length T)) 8192 0 (omega arith) (omega arith) in
-      let e1 = from-add P T 10 8182 0 in
-      let e2 = from-add P T 90 8092 10 in
-      let e3 = from-add P T 900 7192 100 in
+  starts-most B h l =
+      let e : hits P T ≡ hitsFrom P T B 0 = from-enough P T (suc (length T)) B 0 (omega arith) (omega arith) in
+      let z : 0 + B ≡ B = omega arith in
+      omega (arith, ap (λ (xs : List ℕ). length (startLines xs)) e, ap (sizes 19) z, lines-from B 0 (omega arith))
+
+-- the lines of engines whose counts are within those of others
+module _ {M N : ℕ} {P T : List ℕ} (s : Sized M N P T) where
+  line-most : (e : Engine) → length (engineLine e (runOf e P T)) ≤ length (engineLine e (mostOf e M N))
+  line-most e =
+      let r = runOf e P T in
+      let t = mostOf e M N in
+      let w = counts-within s e in
       omega (
         arith,
-        ap (λ (xs : List ℕ). length (startLines xs)) (e0 ∙ e1),
-        starts-length (hitsFrom P T 10 0) (hitsFrom P T 8182 10),
-        ap (λ (xs : List ℕ). length (startLines xs)) e2,
-        starts-length (hitsFrom P T 90 10) (hitsFrom P T 8092 100),
-        ap (λ (xs : List ℕ). length (startLines xs)) e3,
-        starts-length (hitsFrom P T 900 100) (hitsFrom P T 7192 1000),
-        lines-from 1 10 0 (omega arith) (omega arith) (omega arith),
-        lines-from 2 90 10 (omega arith) (omega arith) (omega arith),
-        lines-from 3 900 100 (omega arith) (omega arith) (omega arith),
-        lines-from 4 7192 1000 (omega arith) (omega arith) (omega arith),
+        engine-length e r,
+        engine-length e t,
+        counts-length r,
+        counts-length t,
+        ended-more (r .scan) (t .scan) 32 (w .scan),
+        ended-more (r .shift) (t .shift) 32 (w .shift),
+        ended-more (r .steps) (t .steps) 10 (w .steps),
       )
 
-  module _ (some : 0 < length P) (short : length P ≤ 64) (small : length T < 8192) where
-    few-tests : (x : ℕ) → x ≤ length P * (length T + 1 - length P) → x < 10 ^ 6
-    few-tests x h = let a : length T + 1 - length P ≤ 8191 = omega arith in omega (arith, mul-le-mul-right (length T + 1 - length P) short, mul-le-mul-left 64 a)
+  lines-most : (es : List Engine) → length (engineLines es (map (λ (e : Engine). runOf e P T) es)) ≤ length (engineLines es (map (λ (e : Engine). mostOf e M N) es))
+  unfolding engineLines
+  lines-most [] = omega arith
+  lines-most (e ∷ es) = simp length-append (omega (arith, line-most e, lines-most es))
 
-    engines-most : length (engineLines (valuesOf P T)) ≤ 110
-    unfolding valuesOf
-    engines-most =
-        let le : length T ≤ 8191 = omega arith in
-        let a = counts-most 6 1 1 (bruteRun P T) (omega arith, omega arith) (omega arith, omega arith) (omega arith, omega arith) (few-tests _ (brute-scan P T)) (omega (arith, brute-shift P T)) (omega (arith, brute-steps P T)) in
-        let b = counts-most 5 6 1 (kmpRun P T) (omega arith, omega arith) (omega arith, omega arith) (omega arith, omega arith) (omega (arith, kmp.scan-small P T 64 8191 short le)) (omega (arith, kmp.shift-small P T 64 8191 short le)) (omega (arith, kmp-steps P T)) in
-        let c = counts-most 6 6 1 (bmRun P T) (omega arith, omega arith) (omega arith, omega arith) (omega arith, omega arith) (omega (arith, bm.scan-small P T 64 8191 short le)) (omega (arith, bm.shift-small P T 64 8191 short le some)) (omega (arith, bm-steps P T)) in
-        let d = counts-most 6 1 1 (sundayRun P T) (omega arith, omega arith) (omega arith, omega arith) (omega arith, omega arith) (few-tests _ (sunday-scan P T)) (omega (arith, sunday-shift P T)) (omega (arith, sunday-steps P T)) in
-        let e = counts-most 1 1 4 (shiftandRun P T) (omega arith, omega arith) (omega arith, omega arith) (omega arith, omega arith) (omega (arith, shiftand-scan P T some)) (omega (arith, shiftand-shift P T some)) (omega (arith, shiftand-small P T)) in
-        let f = counts-most 4 1 4 (hybridRun P T) (omega arith, omega arith) (omega arith, omega arith) (omega arith, omega arith) (omega (arith, hybrid-scan P T some)) (omega (arith, hybrid-shift P T some)) (omega (arith, hybrid-steps P T some)) in
-        omega (arith, engines-length (valuesOf P T), a, b, c, d, e, f)
+-- no report of a sheet of B bytes with a pattern of M letters is longer
+unfoldable pub most : ℕ → ℕ → ℕ
+most B M = 5 + length (ended B 10) + sizes 19 B + length (engineLines theSix (map (λ (e : Engine). mostOf e M B) theSix))
 
-    bytes-most : length (bytesOf (valuesOf P T)) ≤ 40000
-    unfolding valuesOf
-    bytes-most =
-        let n : length (hits P T) < 10 ^ 4 = omega (arith, length-hits P T) in
-        omega (arith, bytes-length (valuesOf P T), ended-short 4 (length (hits P T)) 10 n (omega arith) (omega arith), starts-most small, engines-most)
-
--- what a search accepts, and of a text that a sheet can hold
-pub report-most : (k : ℕ) (P T : List ℕ) → verdict 32 64 65536 k P T ≡ Passed → length T < 8192 → length (bytesOf (valuesOf P T)) ≤ 40000
-report-most k P T e h = let s = sized 32 64 65536 k P T e in bytes-most P T (s .some) (s .short) h
+pub bytes-most : {B M : ℕ} {P T : List ℕ} → Sized M B P T → length T < B → B ≤ 10 ^ 20 → length (bytesOf (valuesOf P T)) ≤ most B M
+unfolding valuesOf most
+bytes-most {B} {M} {P} {T} s h l =
+    omega (arith, bytes-length (valuesOf P T), ended-more (length (hits P T)) B 10 (omega (arith, length-hits P T)), starts-most P T B h l, lines-most s theSix)

@@ -2,4 +2,3 @@ pub mod ValueLaws
 pub mod RoomLaws
 pub mod BoundLaws
 pub mod PromiseLaws
-pub mod Examples

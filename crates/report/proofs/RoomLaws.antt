@@ -1,37 +1,26 @@
 -- How much room a reading is given does not matter, if it is enough; and then it is never refused with 8. Assumes nothing.
-use Prim.Native.Nat.{ℕ, suc, _≤_, _<_}
+use Prim.Native.Nat.{ℕ, _≤_}
 use mathlib.Core.Path.{_≡_, refl, ap, subst}
-use mathlib.Core.Bool.{Bool, true, false, not, _||_}
-use mathlib.Core.List.{List, [], _∷_}
+use mathlib.Core.Bool.{Bool, true, false, not}
+use mathlib.Core.List.{List, _∷_}
 use native.Mathlib.Omega.{arith}
 use borrow.Author.Tests.{le-ltb, ltb-false, eqb-true, not-false}
 use lib.Dec.{eqb, ltb}
 use lib.ListN.{length, drop, length-append, length-drop}
-use Rattle.letters.proofs.Truth.{or-false-r}
+use Rattle.letters.specs.Sizes.{outside}
+use Rattle.letters.proofs.SizeLaws.{inside-most}
 use Rattle.decimal.specs.CountLine.{countAt}
 use Rattle.decimal.specs.declared.count.Count.{Count}
 use Rattle.decimal.specs.declared.count.Count.the-variants.{Number, Wrong as CountWrong}
 use Rattle.notation.specs.Alphabet.{alphabetAt}
-use Rattle.notation.specs.Reader.{State, out, Move, stop, end, to, letter, step, Read, got, wrong, follow, scan}
+use Rattle.notation.specs.Reader.{out, Read, got, wrong, readFrom}
 use Rattle.notation.specs.declared.alphabet.Bytes.{Bytes}
 use Rattle.notation.specs.declared.alphabet.Bytes.the-variants.{After, Wrong as BytesWrong}
 use Rattle.notation.proofs.AlphabetLaws.{alphabet-read}
-use Rattle.notation.proofs.ReadLaws.{more-got}
-use Rattle.sheet.specs.Reader.{Outcome, found, refused, refuse, andThen, onCount, onAlphabet, onLetters, alphabetSection, letterSection, stringSections, planning, Strings, reading}
+use Rattle.notation.proofs.ReadLaws.{read-in}
+use Rattle.sheet.specs.Reader.{Outcome, found, refusal, refuseAt, andThen, onCount, onAlphabet, onLetters, alphabetSection, letterLine, letterSection, textSection, stringSections, planning, Strings, reading}
 
--- a line has fewer letters than bytes
-pub scan-short : (A s : List ℕ) (σ : State) (at : ℕ) (cs : List ℕ) (e : ℕ) → scan A σ at s ≡ got cs e → length cs < length s
-unfolding scan
-scan-short A [] σ at cs e q = absurd (let z : _≡_ {A = ℕ} 0 1 = cc in omega arith)
-scan-short A (b ∷ s) σ at cs e q = go (step A σ b) q (λ τ ds r. scan-short A s τ (suc at) ds e r)
-  where
-    go : (m : Move) → follow m at (λ τ. scan A τ (suc at) s) ≡ got cs e → ((τ : State) (ds : List ℕ) → scan A τ (suc at) s ≡ got ds e → length ds < length s) → length cs < suc (length s)
-    go stop w ih = absurd (let z : _≡_ {A = ℕ} 0 1 = cc in omega arith)
-    go end w ih = let x : [] ≡ cs = cc in omega (arith, ap length x)
-    go (to τ) w ih = omega (arith, ih τ cs w)
-    go (letter c) w ih = let g = more-got c (scan A out (suc at) s) cs e w in omega (arith, ih out (g .0) (g .1), ap length (g .2))
-
--- and an alphabet no more letters than the sheet has bytes
+-- an alphabet has no more letters than the sheet has bytes
 alphabet-short : (k from next : ℕ) (s : List ℕ) → alphabetAt k from (drop from s) ≡ After next → k ≤ length s
 alphabet-short k from next s q =
     let l = alphabet-read k from (drop from s) next q in
@@ -39,23 +28,23 @@ alphabet-short k from next s q =
 
 -- two outcomes are the same, and not a refusal with 8
 abbrev Alike : {A : Type 0} → Outcome A → Outcome A → Type 0
-Alike o o′ = (o ≡ o′) × ((place : ℕ) → o ≡ refused 8 place → ⊥)
+Alike o o′ = (o ≡ o′) × ((place : ℕ) → o ≡ refusal 8 place → ⊥)
 
 module _ {A : Type 0} where
-  other-number : (x y p : ℕ) → (x ≡ 8 → ⊥) → _≡_ {A = Outcome A} (refused x y) (refused 8 p) → ⊥
+  other-number : (x y p : ℕ) → (x ≡ 8 → ⊥) → _≡_ {A = Outcome A} (refusal x y) (refusal 8 p) → ⊥
   other-number x y p n e = n (cc)
 
-  found-not : (w : A) (p : ℕ) → found w ≡ refused 8 p → ⊥
+  found-not : (w : A) (p : ℕ) → found w ≡ refusal 8 p → ⊥
   found-not w p e = let z : _≡_ {A = ℕ} 0 1 = cc in omega arith
 
-  alike-refuse : (b : Bool) (x y : ℕ) (o o′ : Outcome A) → (x ≡ 8 → ⊥) → (b ≡ false → Alike o o′) → Alike (refuse b x y o) (refuse b x y o′)
-  unfolding refuse
+  alike-refuse : (b : Bool) (x y : ℕ) (o o′ : Outcome A) → (x ≡ 8 → ⊥) → (b ≡ false → Alike o o′) → Alike (refuseAt b x y o) (refuseAt b x y o′)
+  unfolding refuseAt
   alike-refuse true x y o o′ n h = (refl, λ p e. other-number x y p n e)
   alike-refuse false x y o o′ n h = h refl
 
   -- room enough in both
-  alike-room : (r r′ k : ℕ) (w : A) → (k ≤ r) × (k ≤ r′) → Alike (refuse (ltb r k) 8 0 (found w)) (refuse (ltb r′ k) 8 0 (found w))
-  unfolding refuse
+  alike-room : (r r′ k : ℕ) (w : A) → (k ≤ r) × (k ≤ r′) → Alike (refuseAt (ltb r k) 8 0 (found w)) (refuseAt (ltb r′ k) 8 0 (found w))
+  unfolding refuseAt
   alike-room r r′ k w h = rw (le-ltb r k (h .0), le-ltb r′ k (h .1)) (refl, λ p e. found-not w p e)
 
   alike-count : (r : Count) (at : ℕ) (f g : ℕ → ℕ → Outcome A) → ((n e : ℕ) → r ≡ Number n e → Alike (f n e) (g n e)) → Alike (onCount r at f) (onCount r at g)
@@ -71,13 +60,13 @@ module _ {A : Type 0} where
   alike-letters (got cs e) f g h = h cs e refl
 
 module _ {A B : Type 0} where
-  then-refused : (x y : ℕ) (f : A → Outcome B) → ((p : ℕ) → _≡_ {A = Outcome A} (refused x y) (refused 8 p) → ⊥) → (p : ℕ) → andThen (refused x y) f ≡ refused 8 p → ⊥
+  then-refused : (x y : ℕ) (f : A → Outcome B) → ((p : ℕ) → _≡_ {A = Outcome A} (refusal x y) (refusal 8 p) → ⊥) → (p : ℕ) → andThen (refusal x y) f ≡ refusal 8 p → ⊥
   then-refused x y f n p e =
       let ex : x ≡ 8 = cc in
-      n y (ap (λ (z : ℕ). refused z y) ex)
+      n y (ap (λ (z : ℕ). refusal z y) ex)
 
-  then-same : (o : Outcome A) (f g : A → Outcome B) → ((p : ℕ) → o ≡ refused 8 p → ⊥) → ((x : A) → Alike (f x) (g x)) → Alike (andThen o f) (andThen o g)
-  then-same (refused x y) f g n h = (refl, then-refused x y f n)
+  then-same : (o : Outcome A) (f g : A → Outcome B) → ((p : ℕ) → o ≡ refusal 8 p → ⊥) → ((x : A) → Alike (f x) (g x)) → Alike (andThen o f) (andThen o g)
+  then-same (refusal x y) f g n h = (refl, then-refused x y f n)
   then-same (found x) f g n h = h x
 
   alike-then : (o o′ : Outcome A) (f g : A → Outcome B) → Alike o o′ → ((x : A) → Alike (f x) (g x)) → Alike (andThen o f) (andThen o′ g)
@@ -88,20 +77,21 @@ module _ (s : List ℕ) where
   unfolding alphabetSection
   alphabet-alike K r r′ room =
       alike-count (countAt 0 s) 0 _ _ (λ k from c.
-      alike-refuse (eqb k 0 || ltb K k) 1 0 _ _ (λ z. omega arith) (λ b.
+      alike-refuse (outside 1 K k) 1 0 _ _ (λ z. omega arith) (λ b.
       alike-alphabet (alphabetAt k from (drop from s)) _ _ (λ next l.
-      alike-room r r′ k _ (room k (ltb-false K k (or-false-r (eqb k 0) (ltb K k) b)) (alphabet-short k from next s l)))))
+      alike-room r r′ k _ (room k (inside-most 1 K k b) (alphabet-short k from next s l)))))
 
   letters-alike : (A : List ℕ) (least most number r r′ : ℕ) (at : ℕ) → (number ≡ 8 → ⊥) → ((m : ℕ) → m ≤ most → m ≤ length s → (m ≤ r) × (m ≤ r′))
       → Alike (letterSection A (record { least = least; most = most; number = number; room = r }) s at) (letterSection A (record { least = least; most = most; number = number; room = r′ }) s at)
-  unfolding letterSection
+  unfolding letterSection letterLine
   letters-alike A least most number r r′ at n room =
       alike-count (countAt at (drop at s)) at _ _ (λ m from c.
-      alike-refuse (ltb m least || ltb most m) number at _ _ n (λ b.
-      alike-letters (scan A out from (drop from s)) _ _ (λ cs next l.
+      alike-refuse (outside least most m) number at _ _ n (λ b.
+      alike-letters (readFrom A out from (drop from s)) _ _ (λ cs next l.
       alike-refuse (not (eqb (length cs) m)) 14 at _ _ (λ z. omega arith) (λ d.
       let e : length cs ≡ m = eqb-true (length cs) m (not-false (eqb (length cs) m) d) in
-      alike-room r r′ m _ (room m (ltb-false most m (or-false-r (ltb m least) (ltb most m) b)) (omega (arith, scan-short A (drop from s) out from cs next l, length-drop from s)))))))
+      let w = read-in A (drop from s) out from cs next l in
+      alike-room r r′ m _ (room m (inside-most least most m b) (omega (arith, w .0, w .1, length-drop from s)))))))
 
 -- lists that no section of the sheet s is too long for
 pub record Ample (K M : ℕ) (s : List ℕ) (d : Strings) : Type 0 where
@@ -112,12 +102,14 @@ pub record Ample (K M : ℕ) (s : List ℕ) (d : Strings) : Type 0 where
 module _ (B K M N : ℕ) (s : List ℕ) (d d′ : Strings) (ample : length s ≤ B → Ample K M s d × Ample K M s d′) where
   strings-alike : length s ≤ B → (A : List ℕ) (at : ℕ)
       → Alike (stringSections M N A (length (d .pattern)) (length (d .text)) s at) (stringSections M N A (length (d′ .pattern)) (length (d′ .text)) s at)
-  unfolding stringSections
+  unfolding stringSections textSection
   strings-alike small A at =
       let w = ample small in
       alike-then _ _ _ _ (letters-alike s A 1 M 2 (length (d .pattern)) (length (d′ .pattern)) at (λ z. omega arith) (λ m h l. (w .0 .pattern m h l, w .1 .pattern m h l))) (λ p.
-      alike-then _ _ _ _ (letters-alike s A 0 N 3 (length (d .text)) (length (d′ .text)) (p .next) (λ z. omega arith) (λ n h l. (omega (arith, w .0 .text), omega (arith, w .1 .text)))) (λ t.
+      alike-then _ _ _ _
+      (alike-then _ _ _ _ (letters-alike s A 0 N 3 (length (d .text)) (length (d′ .text)) (p .next) (λ z. omega arith) (λ n h l. (omega (arith, w .0 .text), omega (arith, w .1 .text)))) (λ t.
       alike-refuse (ltb (t .next) (length s)) 15 (t .next) _ _ (λ z. omega arith) (λ b. (refl, λ q e. found-not _ q e))))
+      (λ t. (refl, λ q e. found-not _ q e)))
 
   planning-alike : Alike (planning B K M N (length (d .alphabet)) (length (d .pattern)) (length (d .text)) s) (planning B K M N (length (d′ .alphabet)) (length (d′ .pattern)) (length (d′ .text)) s)
   unfolding planning
@@ -137,5 +129,5 @@ module _ (B K M N : ℕ) (s : List ℕ) (d d′ : Strings) (ample : length s ≤
   same-reading = reading-alike .0
 
   -- and not refused with 8
-  pub never-eight : (place : ℕ) → reading B K M N d s ≡ refused 8 place → ⊥
+  pub never-eight : (place : ℕ) → reading B K M N d s ≡ refusal 8 place → ⊥
   never-eight = reading-alike .1

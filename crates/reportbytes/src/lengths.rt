@@ -1,15 +1,17 @@
 // How long a report is, before any of it is written.
-use crate::Six;
 use decimal::len;
+use engines::engine::Engine;
+use engines::engine::name_len;
 use hits::work::Work;
 use letters::width::wide;
 ghost use mathlib.Core.Path.{_≡_};
-ghost use mathlib.Core.List.{[]};
-ghost use Prim.Native.Nat.{_+_, _*_, _≤_};
-ghost use lib.ListN.{length, take};
+ghost use mathlib.Core.List.{map};
+ghost use Prim.Native.Nat.{_*_, _^_, _≤_, _<_};
+ghost use lib.ListN.{length};
 ghost use Rattle.decimal.specs.Decimal.{ended};
+ghost use Rattle.engines.specs.Engines.{theSix};
 ghost use Rattle.reportbytes.specs.Bytes.{startLines, counts, engineLines, bytesOf};
-ghost use Rattle.reportbytes.specs.Counted.{runIn, valuesIn};
+ghost use Rattle.reportbytes.specs.Values.{runIn, valuesIn};
 
 // A number, and the byte after it, whichever it is.
 fn ended_len(n: u64) -> usize
@@ -25,38 +27,38 @@ fn counts_len(w: Work) -> usize
     ended_len(w.scan) + ended_len(w.shift) + ended_len(w.steps)
 }
 
-// The first starts of a list, each on a line.
-fn starts_len(starts: &[u32], total: usize) -> usize
-    requires { ⌜ (total ≤ length (now starts)) × (total ≤ 65536) ⌝ }
-    ensures { λ r. ⌜ (r ≡ length (startLines (take total (now (starts .entry))))) × (r ≤ 21 * 65536) ⌝ }
+// Each start on a line.
+fn starts_len(starts: &[u32]) -> usize
+    requires { ⌜ length (now starts) < 2 ^ 32 ⌝ }
+    ensures { λ r. ⌜ (r ≡ length (startLines (now (starts .entry)))) × (r ≤ 21 * length (now (starts .entry))) ⌝ }
 {
     let mut sum: usize = 0;
     let mut i: usize = 0;
-    while i < total {
+    while i < starts.len() {
         sum += ended_len(wide(starts[i]));
         i += 1;
     }
     sum
 }
 
-// The lines of the six engines: their names, with the space after each, have 36 bytes.
-fn engines_len(six: Six) -> usize
-    ensures { λ r. ⌜ (r ≡ length (engineLines (valuesIn six []))) × (r ≤ 414) ⌝ }
+// The lines of the six engines.
+fn engines_len(works: [Work; Engine::COUNT]) -> usize
+    ensures { λ r. ⌜ (r ≡ length (engineLines theSix (map runIn works))) × (r < 2 ^ 32) ⌝ }
 {
-    36
-        + counts_len(six.brute)
-        + counts_len(six.kmp)
-        + counts_len(six.bm)
-        + counts_len(six.sunday)
-        + counts_len(six.shiftand)
-        + counts_len(six.hybrid)
+    let mut sum: usize = 0;
+    let mut i: usize = 0;
+    while i < Engine::COUNT {
+        let w = works[i];
+        sum += name_len(Engine::at(i)) + counts_len(w);
+        i += 1;
+    }
+    sum
 }
 
 // The whole report: the first line has its name and the total.
-pub fn report_len(six: Six, starts: &[u32]) -> usize
-    requires { ⌜ (six .brute .total ≤ length (now starts)) × (six .brute .total ≤ 65536) ⌝ }
-    ensures { λ r. ⌜ r ≡ length (bytesOf (valuesIn six (now (starts .entry)))) ⌝ }
+pub fn report_len(works: [Work; Engine::COUNT], starts: &[u32]) -> usize
+    requires { ⌜ length (now starts) < 2 ^ 32 ⌝ }
+    ensures { λ r. ⌜ r ≡ length (bytesOf (valuesIn works (now (starts .entry)))) ⌝ }
 {
-    let total = six.brute.total;
-    5 + ended_len(total as u64) + starts_len(starts, total) + engines_len(six)
+    5 + ended_len(starts.len() as u64) + starts_len(starts) + engines_len(works)
 }

@@ -1,16 +1,18 @@
 // The bytes of a report, line by line, each put at a place and answering the place after it.
-use crate::Six;
-use decimal::bytes::put_bytes;
 use decimal::bytes::put_ended;
+use engines::engine::Engine;
+use engines::engine::put_name;
 use hits::work::Work;
+use lent::put_bytes;
 use letters::width::wide;
 ghost use mathlib.Core.Path.{_≡_};
-ghost use mathlib.Core.List.{[]};
+ghost use mathlib.Core.List.{map};
 ghost use Prim.Native.Nat.{_+_, _≤_};
-ghost use lib.ListN.{length, take};
+ghost use lib.ListN.{length};
 ghost use lib.Seq.{sets};
+ghost use Rattle.engines.specs.Engines.{theSix};
 ghost use Rattle.reportbytes.specs.Bytes.{startLines, counts, engineLine, engineLines, bytesOf};
-ghost use Rattle.reportbytes.specs.Counted.{runIn, valuesIn};
+ghost use Rattle.reportbytes.specs.Values.{runIn, valuesIn};
 
 // An engine's three counts, to the end of its line.
 fn put_counts(out: &mut [u8], at: usize, w: Work) -> usize
@@ -23,22 +25,22 @@ fn put_counts(out: &mut [u8], at: usize, w: Work) -> usize
 }
 
 // An engine's line.
-fn put_engine(out: &mut [u8], at: usize, name: &[u8], w: Work) -> usize
-    requires { ⌜ at + length (engineLine (now name) (runIn w)) ≤ length (now out) ⌝ }
-    ensures { λ r. ⌜ (r ≡ at + length (engineLine (now (name .entry)) (runIn w))) × (now (out .exit) ≡ sets (now (out .entry)) at (engineLine (now (name .entry)) (runIn w))) ⌝ }
+fn put_engine(out: &mut [u8], at: usize, e: Engine, w: Work) -> usize
+    requires { ⌜ at + length (engineLine e (runIn w)) ≤ length (now out) ⌝ }
+    ensures { λ r. ⌜ (r ≡ at + length (engineLine e (runIn w))) × (now (out .exit) ≡ sets (now (out .entry)) at (engineLine e (runIn w))) ⌝ }
 {
-    let a = put_bytes(out, at, name);
+    let a = put_name(out, at, e);
     put_counts(out, a, w)
 }
 
-// The first starts of a list, each on a line.
-fn put_starts(out: &mut [u8], at: usize, starts: &[u32], total: usize) -> usize
-    requires { ⌜ (total ≤ length (now starts)) × (at + length (startLines (take total (now starts))) ≤ length (now out)) ⌝ }
-    ensures { λ r. ⌜ (r ≡ at + length (startLines (take total (now (starts .entry))))) × (now (out .exit) ≡ sets (now (out .entry)) at (startLines (take total (now (starts .entry))))) ⌝ }
+// Each start on a line.
+fn put_starts(out: &mut [u8], at: usize, starts: &[u32]) -> usize
+    requires { ⌜ at + length (startLines (now starts)) ≤ length (now out) ⌝ }
+    ensures { λ r. ⌜ (r ≡ at + length (startLines (now (starts .entry)))) × (now (out .exit) ≡ sets (now (out .entry)) at (startLines (now (starts .entry)))) ⌝ }
 {
     let mut e = at;
     let mut i: usize = 0;
-    while i < total {
+    while i < starts.len() {
         e = put_ended(out, e, wide(starts[i]), 10);
         i += 1;
     }
@@ -46,26 +48,27 @@ fn put_starts(out: &mut [u8], at: usize, starts: &[u32], total: usize) -> usize
 }
 
 // The lines of the six engines.
-fn put_engines(out: &mut [u8], at: usize, six: Six) -> usize
-    requires { ⌜ at + length (engineLines (valuesIn six [])) ≤ length (now out) ⌝ }
-    ensures { λ r. ⌜ (r ≡ at + length (engineLines (valuesIn six []))) × (now (out .exit) ≡ sets (now (out .entry)) at (engineLines (valuesIn six []))) ⌝ }
+fn put_engines(out: &mut [u8], at: usize, works: [Work; Engine::COUNT]) -> usize
+    requires { ⌜ at + length (engineLines theSix (map runIn works)) ≤ length (now out) ⌝ }
+    ensures { λ r. ⌜ (r ≡ at + length (engineLines theSix (map runIn works))) × (now (out .exit) ≡ sets (now (out .entry)) at (engineLines theSix (map runIn works))) ⌝ }
 {
-    let a = put_engine(out, at, b"brute ", six.brute);
-    let b = put_engine(out, a, b"kmp ", six.kmp);
-    let c = put_engine(out, b, b"bm ", six.bm);
-    let d = put_engine(out, c, b"sunday ", six.sunday);
-    let e = put_engine(out, d, b"shiftand ", six.shiftand);
-    put_engine(out, e, b"hybrid ", six.hybrid)
+    let mut e = at;
+    let mut i: usize = 0;
+    while i < Engine::COUNT {
+        let w = works[i];
+        e = put_engine(out, e, Engine::at(i), w);
+        i += 1;
+    }
+    e
 }
 
 // The whole report, from the start of the list.
-pub fn put_report(out: &mut [u8], six: Six, starts: &[u32]) -> usize
-    requires { ⌜ (six .brute .total ≤ length (now starts)) × (length (bytesOf (valuesIn six (now starts))) ≤ length (now out)) ⌝ }
-    ensures { λ r. ⌜ (r ≡ length (bytesOf (valuesIn six (now (starts .entry))))) × (now (out .exit) ≡ sets (now (out .entry)) 0 (bytesOf (valuesIn six (now (starts .entry))))) ⌝ }
+pub fn put_report(out: &mut [u8], works: [Work; Engine::COUNT], starts: &[u32]) -> usize
+    requires { ⌜ length (bytesOf (valuesIn works (now starts))) ≤ length (now out) ⌝ }
+    ensures { λ r. ⌜ (r ≡ length (bytesOf (valuesIn works (now (starts .entry))))) × (now (out .exit) ≡ sets (now (out .entry)) 0 (bytesOf (valuesIn works (now (starts .entry))))) ⌝ }
 {
-    let total = six.brute.total;
     let a = put_bytes(out, 0, b"hits ");
-    let b = put_ended(out, a, total as u64, 10);
-    let c = put_starts(out, b, starts, total);
-    put_engines(out, c, six)
+    let b = put_ended(out, a, starts.len() as u64, 10);
+    let c = put_starts(out, b, starts);
+    put_engines(out, c, works)
 }

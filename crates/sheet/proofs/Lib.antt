@@ -6,3 +6,4 @@ pub mod AcceptLaws
 pub mod RoundTrip
 pub mod PlaceLaws
 pub mod Examples
+pub mod CalledLaws

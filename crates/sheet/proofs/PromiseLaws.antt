@@ -4,23 +4,24 @@ use mathlib.Core.List.{List}
 use Prim.Native.Nat.{ℕ, _≤_}
 use native.Mathlib.Omega.{arith}
 use lib.ListN.{length, drop}
-use Rattle.hits.specs.Hits.{over}
+use Rattle.lent.specs.Over.{over}
 use Rattle.inputs.specs.declared.refusal.Refusal.{Refusal}
-use Rattle.notation.specs.Reader.{out, Read, got, scan}
+use Rattle.notation.specs.Reader.{out, Read, got, readFrom}
 use Rattle.notation.specs.Answers.{lettersOf, Room}
-use Rattle.sheet.specs.Reader.{Outcome, found, refused, Section, Whole, planning, Strings, reading}
-use Rattle.sheet.specs.Answers.{linesOf, plannedOf, answerOf, leftOf, ReadInto, Measured}
+use Rattle.sheet.specs.Reader.{Outcome, found, refusal, Section, Whole, planning, Strings, reading}
+use Rattle.sheet.specs.Answers.{linesOf, plannedOf, takenOf, leftOf, ReadInto, Measured}
 use Rattle.sheet.specs.declared.sections.Bounds.{Bounds}
 use Rattle.sheet.specs.declared.plan.Lines.{Lines}
+use Rattle.sheet.specs.declared.plan.Planned.{Planned}
 use Rattle.sheet.specs.declared.plan.Planned.the-variants.{Whole as PlannedWhole, Refused as PlannedRefused}
-use Rattle.sheet.specs.declared.Answer.{Answer}
-use Rattle.sheet.specs.declared.Answer.the-variants.{Read as AnswerRead, Refused}
+use Rattle.sheet.specs.declared.Taken.{Taken}
+use Rattle.sheet.specs.declared.Taken.the-variants.{Read as TakenRead, Refused}
 use Rattle.sheet.proofs.SectionLaws.{lent, AlphabetLent, lent-is, alphabet-lent, LettersFound, planning-found}
 use Rattle.sheet.proofs.CaseLaws.{same-refusal}
 
 -- what is read from a place over the alphabet that a plan lends
 abbrev lineIn : List ℕ → Lines → ℕ → Read
-lineIn s p from = scan (lent s (p .alphabet) (p .k)) out from (drop from s)
+lineIn s p from = readFrom (lent s (p .alphabet) (p .k)) out from (drop from s)
 
 -- a line that lies in the sheet, whose n letters have room
 pub record LineFound (s : List ℕ) (p : Lines) (from n room : ℕ) : Type 0 where
@@ -40,18 +41,18 @@ pub record LinesFound (B K M N : ℕ) (s : List ℕ) (d : Strings) (p : Lines) :
   pub pattern : LineFound s p (p .pattern) (p .m) (length (d .pattern))
   pub text : LineFound s p (p .text) (p .n) (length (d .text))
 
-known-lines : (o : Outcome Whole) (p : Lines) → plannedOf o ≡ PlannedWhole p → (w : Whole) × (o ≡ found w) × (linesOf w ≡ p)
-known-lines (refused x y) p e = absurd (let z : _≡_ {A = ℕ} 0 1 = cc in omega arith)
+known-lines : (o : Outcome Whole) (p : Lines) → PlannedWhole p ≡ plannedOf o → (w : Whole) × (o ≡ found w) × (linesOf w ≡ p)
+known-lines (refusal x y) p e = absurd (let z : _≡_ {A = ℕ} 0 1 = cc in omega arith)
 known-lines (found w) p e = (w, refl, (cc))
 
-unplanned : (o : Outcome Whole) (r : Refusal) → plannedOf o ≡ PlannedRefused r → o ≡ refused (r .number) (r .place)
-unplanned (refused x y) r e = same-refusal x y r (cc)
+unplanned : (o : Outcome Whole) (r : Refusal) → PlannedRefused r ≡ plannedOf o → o ≡ refusal (r .number) (r .place)
+unplanned (refusal x y) r e = same-refusal x y r (cc)
 unplanned (found w) r e = absurd (let z : _≡_ {A = ℕ} 0 1 = cc in omega arith)
 
 -- a section of letters is a line of the plan
 module _ (s : List ℕ) (p : Lines) {A : List ℕ} {b : Bounds} {at : ℕ} {w : Section} (is : lent s (p .alphabet) (p .k) ≡ A) (f : LettersFound A b s at w) where
   line-reads : lineIn s p (w .from) ≡ got (w .string) (w .next)
-  line-reads = ap (λ (X : List ℕ). scan X out (w .from) (drop (w .from) s)) is ∙ f .reads
+  line-reads = ap (λ (X : List ℕ). readFrom X out (w .from) (drop (w .from) s)) is ∙ f .reads
 
   line-found : LineFound s p (w .from) (length (w .string)) (b .room)
   line-found =
@@ -65,7 +66,7 @@ same-strings : (A A′ P P′ T T′ : List ℕ) → A ≡ A′ → P ≡ P′ �
     → _≡_ {A = Strings} (record { alphabet = A; pattern = P; text = T }) (record { alphabet = A′; pattern = P′; text = T′ })
 same-strings A A′ P P′ T T′ a p t = cc
 
-same-sizes : (k k′ m m′ n n′ : ℕ) → k ≡ k′ → m ≡ m′ → n ≡ n′ → AnswerRead (record { k = k; m = m; n = n }) ≡ AnswerRead (record { k = k′; m = m′; n = n′ })
+same-sizes : (k k′ m m′ n n′ : ℕ) → k ≡ k′ → m ≡ m′ → n ≡ n′ → TakenRead (record { k = k; m = m; n = n }) ≡ TakenRead (record { k = k′; m = m′; n = n′ })
 same-sizes k k′ m m′ n n′ ek em en = cc
 
 module _ (B K M N : ℕ) (s : List ℕ) (d : Strings) where
@@ -87,13 +88,13 @@ module _ (B K M N : ℕ) (s : List ℕ) (d : Strings) where
         text = line-found s p is T;
       }
 
-  pub lines-found : (p : Lines) → plannedOf plan ≡ PlannedWhole p → LinesFound B K M N s d p
-  lines-found p e =
-      let k = known-lines _ p e in
+  pub lines-found : {r : Planned} {p : Lines} → r ≡ PlannedWhole p → r ≡ plannedOf plan → LinesFound B K M N s d p
+  lines-found {r} {p} q e =
+      let k = known-lines _ p (sym q ∙ e) in
       subst (LinesFound B K M N s d) (k .2) (whole-found (k .0) (k .1))
 
   -- a sheet with no plan
-  pub not-read : (r : Refusal) → plannedOf plan ≡ PlannedRefused r → ReadInto B K M N s d (Refused r) d
+  pub not-read : (r : Refusal) → PlannedRefused r ≡ plannedOf plan → ReadInto B K M N s d (Refused r) d
   unfolding reading
   not-read r e = rw (unplanned plan r e) (record { answers = refl; leaves = refl })
 
@@ -102,13 +103,13 @@ module _ (B K M N : ℕ) (s : List ℕ) (d : Strings) where
       → A ≡ over (stringsIn s p .alphabet) (d .alphabet)
       → P ≡ over (stringsIn s p .pattern) (d .pattern)
       → T ≡ over (stringsIn s p .text) (d .text)
-      → ReadInto B K M N s d (AnswerRead (record { k = p .k; m = p .m; n = p .n })) (record { alphabet = A; pattern = P; text = T })
+      → ReadInto B K M N s d (TakenRead (record { k = p .k; m = p .m; n = p .n })) (record { alphabet = A; pattern = P; text = T })
   read-whole p f A P T ea ep et =
       record {
-        answers = sym (ap answerOf (f .reads) ∙ same-sizes _ _ _ _ _ _ (f .alphabet .size) (f .pattern .size) (f .text .size));
+        answers = sym (ap takenOf (f .reads) ∙ same-sizes _ _ _ _ _ _ (f .alphabet .size) (f .pattern .size) (f .text .size));
         leaves = same-strings _ _ _ _ _ _ ea ep et ∙ ap (λ (o : Outcome Strings). leftOf o d) (sym (f .reads));
       }
 
   -- the answer alone
-  pub measured : (r : Answer) (after : Strings) → ReadInto B K M N s d r after → Measured B K M N s d r
+  pub measured : (r : Taken) (after : Strings) → ReadInto B K M N s d r after → Measured B K M N s d r
   measured r after p = record { answers = p .answers; leaves = refl }

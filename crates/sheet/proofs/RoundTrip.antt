@@ -3,9 +3,10 @@ use mathlib.Core.Path.{_≡_, refl, sym, ap, ap₂, _∙_, subst}
 use mathlib.Core.List.{List, [], _∷_, _++_, append-assoc, append-nil}
 use Prim.Native.Nat.{ℕ, suc, _+_, _≤_, _<_}
 use native.Mathlib.Omega.{arith}
-use borrow.Author.Tests.{eq-eqb, ne-eqb, le-ltb}
+use borrow.Author.Tests.{eq-eqb, le-ltb}
 use lib.ListN.{length, drop, take, length-append, length-drop}
 use lib.Seq.{drop-append-seam, take-append-seam, drop-drop, drop-length, take-at}
+use Rattle.letters.proofs.SizeLaws.{inside}
 use Rattle.decimal.specs.Decimal.{decimal}
 use Rattle.decimal.specs.CountLine.{countAt}
 use Rattle.decimal.specs.declared.count.Count.the-variants.{Number}
@@ -13,13 +14,14 @@ use Rattle.decimal.proofs.CountLaws.{count-read, count-written}
 use Rattle.inputs.specs.Refusals.{verdict}
 use Rattle.inputs.specs.declared.refusal.Check.the-variants.{Passed}
 use Rattle.notation.specs.Alphabet.{Alphabet, alphabetAt}
-use Rattle.notation.specs.Spelling.{spell, line, Letters}
-use Rattle.notation.specs.Reader.{out, got, scan}
+use Rattle.notation.specs.Spelling.{spell, line, AllProper}
+use Rattle.notation.specs.Reader.{out, got, readFrom}
 use Rattle.notation.specs.declared.alphabet.Bytes.the-variants.{After}
 use Rattle.notation.proofs.AlphabetLaws.{alphabet-read, alphabet-listed}
-use Rattle.notation.proofs.ReadLaws.{line-read, read-line}
+use Rattle.notation.proofs.SpelledLaws.{line-read}
+use Rattle.notation.proofs.LineLaws.{read-line}
 use Rattle.sheet.specs.Bytes.{sheetBytes, Accepted, RightSheet}
-use Rattle.sheet.specs.Reader.{Outcome, found, refuse, Section, alphabetSection, letterSection, patternBounds, textBounds, stringSections, planning, Strings, reading}
+use Rattle.sheet.specs.Reader.{Outcome, found, refuseAt, Section, alphabetSection, letterLine, letterSection, patternBounds, textBounds, textSection, stringSections, planning, Strings, reading}
 use Rattle.sheet.specs.declared.sections.Bounds.{Bounds}
 use Rattle.sheet.proofs.SectionLaws.{LettersFound, reading-found}
 use Rattle.sheet.proofs.AcceptLaws.{passing, passes}
@@ -39,11 +41,11 @@ line-pos A (c ∷ cs) = omega (arith, length-append (spell A c) (line A cs), lin
 
 -- what a section of letters was
 letters-line : (A : List ℕ) (b : Bounds) (s : List ℕ) (at : ℕ) (w : Section) → Alphabet A → LettersFound A b s at w
-    → Letters (length A) (w .string) × (drop at s ≡ decimal (length (w .string)) ++ (10 ∷ (line A (w .string) ++ drop (w .next) s)))
+    → AllProper (length A) (w .string) × (drop at s ≡ decimal (length (w .string)) ++ (10 ∷ (line A (w .string) ++ drop (w .next) s)))
 letters-line A b s at w al f =
     let cs = w .string in
     let c = count-written at (drop at s) (length cs) (w .from) (f .counted) in
-    let r = read-line A al (drop (w .from) s) (w .from) cs (w .next) (f .reads) in
+    let r = read-line A (drop (w .from) s) (w .from) cs (w .next) (f .reads) in
     let hp : drop (w .from) s ≡ c .rest = on-line s at (decimal (length cs)) (c .rest) (w .from) (c .bytes) (c .place) in
     let he : drop (w .next) s ≡ r .1 .0 = on s (w .from) (line A cs) (r .1 .0) (w .next) (r .1 .1) (r .2) in
     (r .0, c .bytes ∙ ap (λ (ys : List ℕ). decimal (length cs) ++ (10 ∷ ys)) (sym hp ∙ r .1 .1 ∙ ap (λ (ys : List ℕ). line A cs ++ ys) (sym he)))
@@ -101,14 +103,14 @@ read-accepted B K M N d s w q = read-right B K M N d s w q .0 .passed
 
 alphabet-section : (K room : ℕ) (s : List ℕ) (k a e : ℕ) → countAt 0 s ≡ Number k a → 0 < k → k ≤ K → alphabetAt k a (drop a s) ≡ After e → k ≤ room
     → alphabetSection K room s ≡ found (record { string = take k (drop a s); from = a; next = e })
-unfolding alphabetSection refuse
-alphabet-section K room s k a e c p m l r = rw (c, ne-eqb k 0 (λ z. omega arith), le-ltb K k m, l, le-ltb room k r)
+unfolding alphabetSection refuseAt
+alphabet-section K room s k a e c p m l r = rw (c, inside 1 K k p m, l, le-ltb room k r)
 
 letter-section : (A : List ℕ) (b : Bounds) (s : List ℕ) (at m p e : ℕ) (cs : List ℕ) → countAt at (drop at s) ≡ Number m p → b .least ≤ m → m ≤ b .most
-    → scan A out p (drop p s) ≡ got cs e → length cs ≡ m → m ≤ b .room
+    → readFrom A out p (drop p s) ≡ got cs e → length cs ≡ m → m ≤ b .room
     → letterSection A b s at ≡ found (record { string = cs; from = p; next = e })
-unfolding letterSection refuse
-letter-section A b s at m p e cs c l h r z f = rw (c, le-ltb m (b .least) l, le-ltb (b .most) m h, r, eq-eqb (length cs) m z, le-ltb (b .room) m f)
+unfolding letterSection letterLine refuseAt
+letter-section A b s at m p e cs c l h r z f = rw (c, inside (b .least) (b .most) m l h, r, eq-eqb (length cs) m z, le-ltb (b .room) m f)
 
 -- lists that are long enough
 pub record Roomy (A P T : List ℕ) (d : Strings) : Type 0 where
@@ -120,7 +122,7 @@ pub record Roomy (A P T : List ℕ) (d : Strings) : Type 0 where
 module _ (B K M N : ℕ) (fewK : K < 100000) (fewM : M < 100000) (fewN : N < 100000) where
   pub right-read : (A P T : List ℕ) (d : Strings) → Accepted B K M N A P T → Roomy A P T d
       → reading B K M N d (sheetBytes A P T) ≡ found (record { alphabet = A; pattern = P; text = T })
-  unfolding sheetBytes reading planning stringSections refuse
+  unfolding sheetBytes reading planning stringSections textSection refuseAt
   right-read A P T d w room =
       let v = passing K M N (length A) P T (w .passed) in
       let s = sheetBytes A P T in
@@ -141,13 +143,13 @@ module _ (B K M N : ℕ) (fewK : K < 100000) (fewM : M < 100000) (fewN : N < 100
       let c2 : countAt e (drop e s) ≡ Number (length P) p = ap (countAt e) h2 ∙ count-read e (length P) s3 (omega (arith, v .short)) in
       let h3 : drop p s ≡ s3 = on-line s e (decimal (length P)) s3 p h2 refl in
       let f = p + length (line A P) in
-      let r3 : scan A′ out p (drop p s) ≡ got P f = ap₂ (λ (x y : List ℕ). scan x out p y) b1 h3 ∙ line-read A (w .alphabet) P p s4 (v .pattern) in
+      let r3 : readFrom A′ out p (drop p s) ≡ got P f = ap₂ (λ (x y : List ℕ). readFrom x out p y) b1 h3 ∙ line-read A (w .alphabet) P p s4 (v .pattern) in
       let h4 : drop f s ≡ s4 = on s p (line A P) s4 f h3 refl in
       let t = suc (f + length (decimal (length T))) in
       let c4 : countAt f (drop f s) ≡ Number (length T) t = ap (countAt f) h4 ∙ count-read f (length T) (line A T) (omega (arith, v .small)) in
       let h5 : drop t s ≡ line A T = on-line s f (decimal (length T)) (line A T) t h4 refl in
       let g = t + length (line A T) in
-      let r5 : scan A′ out t (drop t s) ≡ got T g = ap₂ (λ (x y : List ℕ). scan x out t y) b1 (h5 ∙ sym (append-nil (line A T))) ∙ line-read A (w .alphabet) T t [] (v .text) in
+      let r5 : readFrom A′ out t (drop t s) ≡ got T g = ap₂ (λ (x y : List ℕ). readFrom x out t y) b1 (h5 ∙ sym (append-nil (line A T))) ∙ line-read A (w .alphabet) T t [] (v .text) in
       let fin : length s ≤ g = omega (arith, ap length h5, length-drop t s, line-pos A T) in
       let q1 = alphabet-section K (length (d .alphabet)) s k a e c0 (v .some) (v .few) l1 (room .alphabet) in
       let q2 = letter-section A′ (patternBounds M (length (d .pattern))) s e (length P) p f P c2 (v .long) (v .short) r3 refl (room .pattern) in

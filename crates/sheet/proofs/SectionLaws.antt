@@ -1,30 +1,31 @@
 -- What a section that was found says of the sheet. Assumes nothing.
 use mathlib.Core.Path.{_≡_, refl, sym, ap, ap₂, _∙_, subst}
-use mathlib.Core.Bool.{Bool, true, false, not, _||_}
-use mathlib.Core.List.{List, [], _∷_}
-use Prim.Native.Nat.{ℕ, suc, _+_, _-_, _≤_, _<_}
+use mathlib.Core.Bool.{Bool, true, false, not}
+use mathlib.Core.List.{List, _∷_}
+use Prim.Native.Nat.{ℕ, _+_, _-_, _≤_, _<_}
 use native.Mathlib.Omega.{arith}
-use borrow.Author.Tests.{eqb-true, eqb-false, ltb-false, not-false}
+use borrow.Author.Tests.{eqb-true, ltb-false, not-false}
 use lib.Dec.{eqb, ltb}
 use lib.ListN.{length, drop, take, length-append, length-drop}
 use lib.Seq.{take-at}
-use Rattle.letters.proofs.Truth.{or-false-l, or-false-r}
+use Rattle.letters.specs.Sizes.{outside}
+use Rattle.letters.proofs.SizeLaws.{inside-least, inside-most}
 use Rattle.decimal.specs.CountLine.{countAt}
 use Rattle.decimal.specs.declared.count.Count.{Count}
 use Rattle.decimal.specs.declared.count.Count.the-variants.{Number, Wrong as CountWrong}
 use Rattle.decimal.proofs.CountLaws.{count-within}
 use Rattle.notation.specs.Alphabet.{Alphabet, alphabetAt}
-use Rattle.notation.specs.Reader.{State, out, Move, stop, end, to, letter, step, Read, got, wrong, follow, scan}
+use Rattle.notation.specs.Reader.{out, Read, got, wrong, readFrom}
 use Rattle.notation.specs.declared.alphabet.Bytes.{Bytes}
 use Rattle.notation.specs.declared.alphabet.Bytes.the-variants.{After, Wrong as BytesWrong}
 use Rattle.notation.proofs.AlphabetLaws.{alphabet-read}
-use Rattle.notation.proofs.ReadLaws.{more-got}
-use Rattle.sheet.specs.Reader.{Outcome, found, refused, refuse, andThen, onCount, onAlphabet, onLetters, Section, alphabetSection, letterSection, patternBounds, textBounds, Sections, stringSections, Whole, planning, Strings, reading}
+use Rattle.notation.proofs.ReadLaws.{read-in}
+use Rattle.sheet.specs.Reader.{Outcome, found, refusal, refuseAt, andThen, onCount, onAlphabet, onLetters, Section, alphabetSection, letterLine, letterSection, patternBounds, textBounds, textSection, Sections, stringSections, Whole, planning, Strings, reading}
 use Rattle.sheet.specs.declared.sections.Bounds.{Bounds}
 
 module _ {A : Type 0} where
-  refuse-found : (b : Bool) (x y : ℕ) (o : Outcome A) (w : A) → refuse b x y o ≡ found w → (b ≡ false) × (o ≡ found w)
-  unfolding refuse
+  refuse-found : (b : Bool) (x y : ℕ) (o : Outcome A) (w : A) → refuseAt b x y o ≡ found w → (b ≡ false) × (o ≡ found w)
+  unfolding refuseAt
   refuse-found true x y o w q = absurd (let z : _≡_ {A = ℕ} 0 1 = cc in omega arith)
   refuse-found false x y o w q = (refl, q)
 
@@ -41,20 +42,8 @@ module _ {A : Type 0} where
   letters-found (got cs e) f w q = (cs, e, refl, q)
 
 then-found : {A B : Type 0} (o : Outcome A) (f : A → Outcome B) (w : B) → andThen o f ≡ found w → (x : A) × (o ≡ found x) × (f x ≡ found w)
-then-found (refused x y) f w q = absurd (let z : _≡_ {A = ℕ} 0 1 = cc in omega arith)
+then-found (refusal x y) f w q = absurd (let z : _≡_ {A = ℕ} 0 1 = cc in omega arith)
 then-found (found x) f w q = (x, refl, q)
-
--- a line that is read ends within the sheet
-scan-in : (A s : List ℕ) (σ : State) (at : ℕ) (cs : List ℕ) (e : ℕ) → scan A σ at s ≡ got cs e → e ≤ at + length s
-unfolding scan
-scan-in A [] σ at cs e q = absurd (let z : _≡_ {A = ℕ} 0 1 = cc in omega arith)
-scan-in A (b ∷ s) σ at cs e q = go (step A σ b) q (λ τ ds r. scan-in A s τ (suc at) ds e r)
-  where
-    go : (m : Move) → follow m at (λ τ. scan A τ (suc at) s) ≡ got cs e → ((τ : State) (ds : List ℕ) → scan A τ (suc at) s ≡ got ds e → e ≤ suc at + length s) → e ≤ at + suc (length s)
-    go stop w ih = absurd (let z : _≡_ {A = ℕ} 0 1 = cc in omega arith)
-    go end w ih = let x : e ≡ suc at = cc in omega arith
-    go (to τ) w ih = omega (arith, ih τ cs w)
-    go (letter c) w ih = let g = more-got c (scan A out (suc at) s) cs e w in omega (arith, ih out (g .0) (g .1))
 
 pub record AlphabetFound (K room : ℕ) (s : List ℕ) (w : Section) : Type 0 where
   pub counted : countAt 0 s ≡ Number (length (w .string)) (w .from)
@@ -73,13 +62,13 @@ alphabet-section-found K room s w q =
     let c = count-found (countAt 0 s) 0 _ w q in
     let k = c .0 in
     let a = c .1 in
-    let d = refuse-found (eqb k 0 || ltb K k) 1 0 _ w (c .3) in
+    let d = refuse-found (outside 1 K k) 1 0 _ w (c .3) in
     let l = alphabet-found (alphabetAt k a (drop a s)) _ w (d .1) in
     let e = l .0 in
     let r = refuse-found (ltb room k) 8 0 _ w (l .2) in
     let is : record { string = take k (drop a s); from = a; next = e } ≡ w = cc in
-    let n0 = eqb-false k 0 (or-false-l (eqb k 0) (ltb K k) (d .0)) in
-    let kK = ltb-false K k (or-false-r (eqb k 0) (ltb K k) (d .0)) in
+    let lo = inside-least 1 K k (d .0) in
+    let hi = inside-most 1 K k (d .0) in
     let kr = ltb-false room k (r .0) in
     let ae = count-within 0 s k a (omega arith) (c .2) in
     let L = alphabet-read k a (drop a s) e (l .1) in
@@ -134,40 +123,35 @@ pub record LettersFound (A : List ℕ) (b : Bounds) (s : List ℕ) (at : ℕ) (w
   pub counted : countAt at (drop at s) ≡ Number (length (w .string)) (w .from)
   pub low : b .least ≤ length (w .string)
   pub high : length (w .string) ≤ b .most
-  pub reads : scan A out (w .from) (drop (w .from) s) ≡ got (w .string) (w .next)
+  pub reads : readFrom A out (w .from) (drop (w .from) s) ≡ got (w .string) (w .next)
   pub fits : length (w .string) ≤ b .room
   pub within : w .from ≤ length s
   pub next : w .next ≤ length s
 
 pub letter-section-found : (A : List ℕ) (b : Bounds) (s : List ℕ) (at : ℕ) (w : Section) → at ≤ length s → letterSection A b s at ≡ found w → LettersFound A b s at w
-unfolding letterSection
+unfolding letterSection letterLine
 letter-section-found A b s at w h q =
     let c = count-found (countAt at (drop at s)) at _ w q in
     let m = c .0 in
     let p = c .1 in
-    let d = refuse-found (ltb m (b .least) || ltb (b .most) m) (b .number) at _ w (c .3) in
-    let l = letters-found (scan A out p (drop p s)) _ w (d .1) in
+    let d = refuse-found (outside (b .least) (b .most) m) (b .number) at _ w (c .3) in
+    let l = letters-found (readFrom A out p (drop p s)) _ w (d .1) in
     let cs = l .0 in
     let e = l .1 in
     let f = refuse-found (not (eqb (length cs) m)) 14 at _ w (l .3) in
     let r = refuse-found (ltb (b .room) m) 8 0 _ w (f .1) in
     let is : record { string = cs; from = p; next = e } ≡ w = cc in
     let n : length cs ≡ m = eqb-true (length cs) m (not-false (eqb (length cs) m) (f .0)) in
-    let lo = ltb-false m (b .least) (or-false-l (ltb m (b .least)) (ltb (b .most) m) (d .0)) in
-    let hi = ltb-false (b .most) m (or-false-r (ltb m (b .least)) (ltb (b .most) m) (d .0)) in
-    let ro = ltb-false (b .room) m (r .0) in
     let pe = count-within at s m p h (c .2) in
-    let si = scan-in A (drop p s) out p cs e (l .2) in
-    let dl = length-drop p s in
     subst (LettersFound A b s at) is
     (record {
       counted = c .2 ∙ ap (λ (x : ℕ). Number x p) (sym n);
-      low = omega arith;
-      high = omega arith;
+      low = omega (arith, inside-least (b .least) (b .most) m (d .0));
+      high = omega (arith, inside-most (b .least) (b .most) m (d .0));
       reads = l .2;
-      fits = omega arith;
+      fits = omega (arith, ltb-false (b .room) m (r .0));
       within = pe;
-      next = omega arith;
+      next = omega (arith, read-in A (drop p s) out p cs e (l .2), length-drop p s);
     })
 
 pub record BothFound (M N : ℕ) (A : List ℕ) (roomP roomT : ℕ) (s : List ℕ) (at : ℕ) (w : Sections) : Type 0 where
@@ -177,16 +161,18 @@ pub record BothFound (M N : ℕ) (A : List ℕ) (roomP roomT : ℕ) (s : List �
 
 pub string-sections-found : (M N : ℕ) (A : List ℕ) (roomP roomT : ℕ) (s : List ℕ) (at : ℕ) (w : Sections) → at ≤ length s
     → stringSections M N A roomP roomT s at ≡ found w → BothFound M N A roomP roomT s at w
-unfolding stringSections
+unfolding stringSections textSection
 string-sections-found M N A roomP roomT s at w h q =
     let x = then-found (letterSection A (patternBounds M roomP) s at) _ w q in
     let p = x .0 in
-    let y = then-found (letterSection A (textBounds N roomT) s (p .next)) _ w (x .2) in
-    let t = y .0 in
-    let z = refuse-found (ltb (t .next) (length s)) 15 (t .next) _ w (y .2) in
+    let y = then-found (textSection N A roomT s (p .next)) _ w (x .2) in
+    let u = y .0 in
+    let v = then-found (letterSection A (textBounds N roomT) s (p .next)) _ u (y .1) in
+    let t = v .0 in
+    let z = refuse-found (ltb (t .next) (length s)) 15 (t .next) _ u (v .2) in
     let is : record { pattern = p; text = t } ≡ w = cc in
     let P = letter-section-found A (patternBounds M roomP) s at p h (x .1) in
-    let T = letter-section-found A (textBounds N roomT) s (p .next) t (P .next) (y .1) in
+    let T = letter-section-found A (textBounds N roomT) s (p .next) t (P .next) (v .1) in
     let l = ltb-false (t .next) (length s) (z .0) in
     subst (BothFound M N A roomP roomT s at) is (record { pattern = P; text = T; end = omega (arith, T .next) })
 

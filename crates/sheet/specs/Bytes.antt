@@ -1,7 +1,7 @@
 -- A right sheet: the bytes of strings that are accepted. Three sections in a fixed order, each after its count: alphabet, pattern, text.
 use Prim.Native.Nat.{ℕ, _≤_}
 use mathlib.Core.Path.{_≡_}
-use mathlib.Core.List.{List, [], _∷_, _++_}
+use mathlib.Core.List.{List, _∷_, _++_}
 use lib.ListN.{length}
 use Rattle.decimal.specs.Decimal.{decimal}
 use Rattle.inputs.specs.Refusals.{verdict}

@@ -1,17 +1,19 @@
 // The search sheet: its reader. All is checked before anything is written.
+pub mod c;
 pub mod measure;
 pub mod plan;
 pub mod sections;
+mod twice;
 
 use crate::plan::Planned;
 use crate::plan::plan;
-use decimal::bytes::put_bytes;
-use inputs::checks::Text;
 use inputs::refusal::Refusal;
+use lent::put_bytes;
 use letters::letter::Letter;
+use letters::strings::Pattern;
+use letters::strings::Text;
 use notation::alphabet::numbers;
 use notation::lines::put_letters;
-use pattern::Pattern;
 ghost use mathlib.Core.Path.{_≡_};
 ghost use Rattle.sheet.specs.Answers.{ReadInto};
 
@@ -39,17 +41,17 @@ pub struct Sizes {
 }
 
 // What the reader answers.
-pub enum Answer {
+pub enum Taken {
     Read(Sizes),
     Refused(Refusal),
 }
 
 // Reads a sheet into the lent lists, or refuses it and writes nothing.
-pub fn read(sheet: &[u8], alphabet: &mut [u8], pattern: &mut [u32], text: &mut [u32]) -> Answer
+pub fn read(sheet: &[u8], alphabet: &mut [u8], pattern: &mut [u32], text: &mut [u32]) -> Taken
     ensures promise { λ r. do ⌜ ReadInto (← ⟦Sheet::MAX_BYTES⟧ .entry) (← ⟦Letter::MAX_K⟧ .entry) (← ⟦Pattern::MAX_M⟧ .entry) (← ⟦Text::MAX_N⟧ .entry) (now (sheet .entry)) (record { alphabet = now (alphabet .entry); pattern = now (pattern .entry); text = now (text .entry) }) r (record { alphabet = now (alphabet .exit); pattern = now (pattern .exit); text = now (text .exit) }) ⌝ }
 {
     match plan(sheet, alphabet.len(), pattern.len(), text.len()) {
-        Planned::Refused(r) => Answer::Refused(r),
+        Planned::Refused(r) => Taken::Refused(r),
         Planned::Whole(w) => {
             let from = w.alphabet;
             let end = from + w.k as usize;
@@ -58,7 +60,7 @@ pub fn read(sheet: &[u8], alphabet: &mut [u8], pattern: &mut [u32], text: &mut [
             put_bytes(alphabet, 0, letters);
             put_letters(letters, &table, sheet, w.pattern, pattern);
             put_letters(letters, &table, sheet, w.text, text);
-            Answer::Read(Sizes {
+            Taken::Read(Sizes {
                 k: w.k,
                 m: w.m,
                 n: w.n,

@@ -1,17 +1,18 @@
 // The sections of a sheet: what they hold is checked and counted, and nothing is written.
 use decimal::count::Count;
-use inputs::checks::Text;
+use decimal::count::read_count;
 use inputs::refusal::Refusal;
 use letters::letter::Letter;
+use letters::limits::is_outside;
+use letters::strings::Pattern;
+use letters::strings::Text;
 use notation::alphabet::Bytes;
+use notation::alphabet::read_line;
 use notation::lines::Line;
 use notation::lines::count_letters;
-use pattern::Pattern;
 ghost use mathlib.Core.Path.{_≡_};
-ghost use Prim.Native.Nat.{_≤_, _<_};
-ghost use lib.ListN.{length};
-ghost use Rattle.notation.specs.Alphabet.{TableOf};
-ghost use Rattle.sheet.specs.Reader.{alphabetSection, letterSection, stringSections};
+ghost use Rattle.notation.specs.Answers.{Given};
+ghost use Rattle.sheet.specs.Reader.{alphabetSection, letterLine, letterSection, textSection, stringSections};
 ghost use Rattle.sheet.specs.Answers.{foundOf, bothOf};
 
 // A section: its count, where its line begins, and the place after it.
@@ -41,34 +42,67 @@ pub enum Both {
     Refused(Refusal),
 }
 
-fn refused(number: u32, place: usize) -> Found
-    ensures { λ r. ⌜ r ≡ Found.Refused (record { number = number; place = place }) ⌝ }
-{
-    Found::Refused(Refusal { number, place })
-}
-
 // The alphabet's section.
 pub(crate) fn alphabet_section(sheet: &[u8], room: usize) -> Found
     ensures { λ r. do ⌜ r ≡ foundOf (alphabetSection (← ⟦Letter::MAX_K⟧ .entry) room (now (sheet .entry))) ⌝ }
 {
-    match decimal::count::read(sheet, 0) {
-        Count::Wrong => refused(11, 0),
+    match read_count(sheet, 0) {
+        Count::Wrong => Found::Refused(Refusal {
+            number: 11,
+            place: 0,
+        }),
         Count::Number(k, from) => {
-            if k == 0 {
-                return refused(1, 0);
+            if is_outside(k, 1, Letter::MAX_K as usize) {
+                return Found::Refused(Refusal {
+                    number: 1,
+                    place: 0,
+                });
             }
-            if (Letter::MAX_K as usize) < k {
-                return refused(1, 0);
-            }
-            match notation::alphabet::read_line(sheet, from, k) {
-                Bytes::Wrong(place) => refused(12, place),
+            match read_line(sheet, from, k) {
+                Bytes::Wrong(place) => Found::Refused(Refusal { number: 12, place }),
                 Bytes::After(next) => {
                     if room < k {
-                        return refused(8, 0);
+                        return Found::Refused(Refusal {
+                            number: 8,
+                            place: 0,
+                        });
                     }
                     Found::At(k, from, next)
                 }
             }
+        }
+    }
+}
+
+// A line of m letters, whose count line is at a place.
+fn letter_line(
+    alphabet: &[u8],
+    table: &[u8; 256],
+    sheet: &[u8],
+    from: usize,
+    m: usize,
+    count: usize,
+    room: usize,
+) -> Found
+    requires { do ⌜ Given (← ⟦Letter::MAX_K⟧) (now alphabet) (now table) (now sheet) from ⌝ }
+    ensures { λ r. ⌜ r ≡ foundOf (letterLine (now (alphabet .entry)) room (now (sheet .entry)) count m from) ⌝ }
+{
+    match count_letters(alphabet, table, sheet, from) {
+        Line::Wrong(place) => Found::Refused(Refusal { number: 13, place }),
+        Line::Counted(n, next) => {
+            if n != m {
+                return Found::Refused(Refusal {
+                    number: 14,
+                    place: count,
+                });
+            }
+            if room < m {
+                return Found::Refused(Refusal {
+                    number: 8,
+                    place: 0,
+                });
+            }
+            Found::At(m, from, next)
         }
     }
 }
@@ -81,36 +115,52 @@ fn letter_section(
     at: usize,
     bounds: Bounds,
 ) -> Found
-    requires { ⌜ (0 < length (now alphabet)) × (length (now alphabet) ≤ 32) × (at ≤ length (now sheet)) ⌝ }
-    requires { ⌜ TableOf (now alphabet) (now table) ⌝ }
+    requires { do ⌜ Given (← ⟦Letter::MAX_K⟧) (now alphabet) (now table) (now sheet) at ⌝ }
     ensures { λ r. ⌜ r ≡ foundOf (letterSection (now (alphabet .entry)) bounds (now (sheet .entry)) at) ⌝ }
 {
-    match decimal::count::read(sheet, at) {
-        Count::Wrong => refused(11, at),
+    match read_count(sheet, at) {
+        Count::Wrong => Found::Refused(Refusal {
+            number: 11,
+            place: at,
+        }),
         Count::Number(m, from) => {
-            if m < bounds.least {
-                return refused(bounds.number, at);
+            if is_outside(m, bounds.least, bounds.most) {
+                return Found::Refused(Refusal {
+                    number: bounds.number,
+                    place: at,
+                });
             }
-            if bounds.most < m {
-                return refused(bounds.number, at);
-            }
-            match count_letters(alphabet, table, sheet, from) {
-                Line::Wrong(place) => refused(13, place),
-                Line::Counted(n, next) => {
-                    if n != m {
-                        return refused(14, at);
-                    }
-                    if bounds.room < m {
-                        return refused(8, 0);
-                    }
-                    Found::At(m, from, next)
-                }
-            }
+            letter_line(alphabet, table, sheet, from, m, at, bounds.room)
         }
     }
 }
 
-// The pattern's and the text's section, from a place to the sheet's end.
+// The text's section, from a place to the sheet's end.
+fn text_section(alphabet: &[u8], table: &[u8; 256], sheet: &[u8], at: usize, room: usize) -> Found
+    requires { do ⌜ Given (← ⟦Letter::MAX_K⟧) (now alphabet) (now table) (now sheet) at ⌝ }
+    ensures { λ r. do ⌜ r ≡ foundOf (textSection (← ⟦Text::MAX_N⟧ .entry) (now (alphabet .entry)) room (now (sheet .entry)) at) ⌝ }
+{
+    let bounds = Bounds {
+        least: 0,
+        most: Text::MAX_N,
+        number: 3,
+        room,
+    };
+    match letter_section(alphabet, table, sheet, at, bounds) {
+        Found::Refused(r) => Found::Refused(r),
+        Found::At(n, from, next) => {
+            if next < sheet.len() {
+                return Found::Refused(Refusal {
+                    number: 15,
+                    place: next,
+                });
+            }
+            Found::At(n, from, next)
+        }
+    }
+}
+
+// The pattern's and the text's section.
 pub(crate) fn string_sections(
     alphabet: &[u8],
     table: &[u8; 256],
@@ -119,42 +169,25 @@ pub(crate) fn string_sections(
     pattern: usize,
     text: usize,
 ) -> Both
-    requires { ⌜ (0 < length (now alphabet)) × (length (now alphabet) ≤ 32) × (at ≤ length (now sheet)) ⌝ }
-    requires { ⌜ TableOf (now alphabet) (now table) ⌝ }
+    requires { do ⌜ Given (← ⟦Letter::MAX_K⟧) (now alphabet) (now table) (now sheet) at ⌝ }
     ensures { λ r. do ⌜ r ≡ bothOf (stringSections (← ⟦Pattern::MAX_M⟧ .entry) (← ⟦Text::MAX_N⟧ .entry) (now (alphabet .entry)) pattern text (now (sheet .entry)) at) ⌝ }
 {
-    let first = Bounds {
+    let bounds = Bounds {
         least: 1,
         most: Pattern::MAX_M,
         number: 2,
         room: pattern,
     };
-    match letter_section(alphabet, table, sheet, at, first) {
+    match letter_section(alphabet, table, sheet, at, bounds) {
         Found::Refused(r) => Both::Refused(r),
-        Found::At(m, p, next) => {
-            let second = Bounds {
-                least: 0,
-                most: Text::MAX_N,
-                number: 3,
-                room: text,
-            };
-            match letter_section(alphabet, table, sheet, next, second) {
-                Found::Refused(r) => Both::Refused(r),
-                Found::At(n, t, end) => {
-                    if end < sheet.len() {
-                        return Both::Refused(Refusal {
-                            number: 15,
-                            place: end,
-                        });
-                    }
-                    Both::Whole(Places {
-                        m,
-                        pattern: p,
-                        n,
-                        text: t,
-                    })
-                }
-            }
-        }
+        Found::At(m, p, next) => match text_section(alphabet, table, sheet, next, text) {
+            Found::Refused(r) => Both::Refused(r),
+            Found::At(n, t, _) => Both::Whole(Places {
+                m,
+                pattern: p,
+                n,
+                text: t,
+            }),
+        },
     }
 }

@@ -1,2 +1,1 @@
 pub mod ShiftAndLaws
-pub mod Examples

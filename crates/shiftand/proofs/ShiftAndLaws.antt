@@ -19,7 +19,7 @@ use Rattle.word.proofs.WordLaws.{digits, zero-means, stepped-means, top-hit}
 use Rattle.shiftand.specs.ShiftAnd.{Reading, shiftandTurn, unread, cleared, shiftandRun}
 
 module _ (P T : List ℕ) where
-  pub unread-left : (s : Reading) → unread P T s ≡ true → s .read < length T
+  unread-left : (s : Reading) → unread P T s ≡ true → s .read < length T
   unread-left s y = ltb-true _ _ (and-true-r (leb (length P) (length T)) (ltb (s .read) (length T)) y)
 
   pub is-unread : (s : Reading) → length P ≤ length T → s .read < length T → unread P T s ≡ true
@@ -28,66 +28,59 @@ module _ (P T : List ℕ) where
   pub is-read : (s : Reading) → length T ≤ s .read → unread P T s ≡ false
   is-read s l = rw (le-ltb (s .read) (length T) l) (and-false (leb (length P) (length T)))
 
-  pub too-long : (s : Reading) → length T < length P → unread P T s ≡ false
+  too-long : (s : Reading) → length T < length P → unread P T s ≡ false
   too-long s l = rw (lt-leb (length P) (length T) l)
 
   -- the state means what it says of the letters read
-  pub record Ok (s : Reading) : Type 0 where
-    pub within : s .read ≤ length T
-    pub means : Means P T 0 (s .read) (digits (s .word))
+  abbrev Ok : Reading → Type 0
+  Ok s = Means P T 0 (s .read) (digits (s .word))
 
   -- the start of the stretch that ends with the next letter
-  abbrev pub settled : Reading → ℕ
+  abbrev settled : Reading → ℕ
   settled s = s .read + 1 - length P
 
   module _ (p : 0 < length P) where
-    turn-ok : (s : Reading) → Ok s → s .read < length T → Ok (shiftandTurn P T s .next)
-    unfolding shiftandTurn
-    turn-ok s o l = record { within = omega arith; means = stepped-means P T 0 (s .read) (s .word) (o .means) (omega arith) }
-
     turn-found : (s : Reading) → Ok s → s .read < length T
         → shiftandTurn P T s .found ≡ keep (leb (length P) (s .read + 1) && hitAt P T (settled s)) (settled s) []
     unfolding shiftandTurn
     turn-found s o l =
         ap (λ (b : Bool). keep b (settled s) [])
         (rw (zero-add (length P)) at
-        (top-hit P T 0 (s .read + 1) (stepped P (getD T (s .read) 0) (s .word)) (stepped-means P T 0 (s .read) (s .word) (o .means) (omega arith)) p (omega arith)))
+        (top-hit P T 0 (s .read + 1) (stepped P (getD T (s .read) 0) (s .word)) (stepped-means P T 0 (s .read) (s .word) o (omega arith)) p (omega arith)))
 
-    pub turn-fair : (s : Reading) → Ok s → s .read < length T → Fair P T (λ (s : Reading). length T - s .read) settled Ok s (shiftandTurn P T s)
+    turn-fair : (s : Reading) → Ok s → s .read < length T → Fair P T (λ (s : Reading). length T - s .read) settled Ok s (shiftandTurn P T s)
     unfolding shiftandTurn hitsFrom
     turn-fair s o l =
-        bool-cases (leb (length P) (s .read + 1))
-        (λ y. let h : length P ≤ s .read + 1 = leb-true _ _ y in
         record {
           falls = omega arith;
-          still = turn-ok s o l;
-          gap = 1;
+          still = stepped-means P T 0 (s .read) (s .word) o (omega arith);
+          gap = s .read + 2 - length P - settled s;
           moved = omega arith;
-          right = turn-found s o l ∙ rw y;
-        })
-        (λ n. let h : s .read + 1 < length P = leb-false _ _ n in
-        record {
-          falls = omega arith;
-          still = turn-ok s o l;
-          gap = 0;
-          moved = omega arith;
-          right = turn-found s o l ∙ rw n;
-        })
+          right =
+              turn-found s o l
+              ∙ bool-cases (leb (length P) (s .read + 1))
+              (λ y. let h : length P ≤ s .read + 1 = leb-true _ _ y in
+              let z : s .read + 2 - length P - settled s ≡ 1 = omega arith in
+              rw (y, z))
+              (λ n. let h : s .read + 1 < length P = leb-false _ _ n in
+              let z : s .read + 2 - length P - settled s ≡ 0 = omega arith in
+              rw (n, z));
+        }
 
-    pub all-read : (s : Reading) → unread P T s ≡ false → length T < settled s + length P
+    all-read : (s : Reading) → unread P T s ≡ false → length T < settled s + length P
     all-read s n =
         bool-cases (leb (length P) (length T))
         (λ y. let h : length T ≤ s .read = ltb-false _ _ (rw y at n) in omega arith)
         (λ z. let h : length T < length P = leb-false _ _ z in omega arith)
 
     -- settled are the starts of all stretches that end with a letter read
-    unfoldable pub sound : Sound P T (unread P T) (shiftandTurn P T) (length T) cleared
+    pub sound : Sound P T (unread P T) (shiftandTurn P T) (length T) cleared
     sound =
         record {
           left = λ s. length T - s .read;
           settled = settled;
           ok = Ok;
-          begins = record { within = omega arith; means = zero-means P T 0 };
+          begins = zero-means P T 0;
           enough = omega arith;
           nothing = omega arith;
           fair = λ s o y. turn-fair s o (unread-left s y);

@@ -1,5 +1,5 @@
 -- Laws of `least`. Assumes nothing.
-use mathlib.Core.Path.{_≡_, refl, _∙_}
+use mathlib.Core.Path.{_≡_, refl, sym, _∙_}
 use mathlib.Core.Bool.{Bool, true, false, _||_}
 use mathlib.Core.Logic.{⊎-elim}
 use Prim.Native.Nat.{ℕ, zero, suc, _+_, _-_, _≤_, _<_, min}
@@ -97,14 +97,24 @@ module _ (b : ℕ → Bool) where
       let h = least-le b from f in
       least-is b from g (least b from f) (least-ge b from f) (omega arith) (λ j u v. least-first b from f j u v) (least-has b from f e)
 
-  -- a search to m, by the x that it has come to
-  module _ (m x : ℕ) where
-    pub to-here : b x ≡ true → least b x (m - x) ≡ x
-    to-here e = least-here b x (m - x) e
+  -- a loop from `from` to m that has come to x: the least is the same from there
+  pub record Seeking (m from x : ℕ) : Type 0 where
+    pub low : from ≤ x
+    pub top : x ≤ m
+    pub ahead : least b from (m - from) ≡ least b x (m - x)
 
-    pub to-on : x < m → b x ≡ false → least b x (m - x) ≡ least b (x + 1) (m - (x + 1))
-    to-on l e = let z : m - x ≡ suc (m - suc x) = omega arith in rw (z, add-one x) (least-on b x (m - suc x) e)
+  pub seek-start : (m from : ℕ) → from ≤ m → Seeking m from from
+  seek-start m from l = record { low = omega arith; top = l; ahead = refl }
 
-    pub to-end : m ≤ x → least b x (m - x) ≡ x
+  module _ {m from x : ℕ} (q : Seeking m from x) where
+    pub seek-here : b x ≡ true → x ≡ least b from (m - from)
+    seek-here e = sym (q .ahead ∙ least-here b x (m - x) e)
+
+    pub seek-on : x < m → b x ≡ false → Seeking m from (x + 1)
+    seek-on l e =
+        let z : m - x ≡ suc (m - suc x) = omega arith in
+        record { low = omega (arith, q .low); top = omega arith; ahead = q .ahead ∙ rw (z, add-one x) (least-on b x (m - suc x) e) }
+
+    pub seek-end : m ≤ x → x ≡ least b from (m - from)
     unfolding least
-    to-end l = let z : m - x ≡ 0 = omega arith in rw z
+    seek-end l = let z : m - x ≡ 0 = omega arith in sym (q .ahead ∙ rw z)

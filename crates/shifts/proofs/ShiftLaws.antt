@@ -8,20 +8,17 @@ use native.Mathlib.Omega.{arith}
 use borrow.Author.Tests.{ltb-false, lt-ltb, le-ltb, le-leb, lt-leb, leb-true, leb-false}
 use lib.Dec.{leb, ltb}
 use lib.ListN.{length, getD}
-use Rattle.hits.specs.Hits.{hitAt}
-use Rattle.hits.specs.Scans.{reach, tests}
-use Rattle.hits.specs.Counts.{tally}
-use native.Mathlib.Numerals.{add-one}
+use Rattle.hits.specs.Hits.{hitAt, met}
+use Rattle.hits.specs.Scans.{tests}
 use Rattle.letters.proofs.Truth.{bool-cases, or-false-l, or-false-r}
 use Rattle.hits.proofs.HitLaws.{hit-is}
-use Rattle.hits.proofs.ScanLaws.{tests-le, tests-reach, reach-ge}
-use Rattle.shifts.specs.Singles.{plain}
-use Rattle.shifts.specs.Spans.{span}
+use Rattle.hits.proofs.ScanLaws.{tests-le}
+use Rattle.hits.specs.Singles.{allSingle}
 use Rattle.shifts.specs.Least.{least}
 use Rattle.shifts.specs.Shift.{covers, fit, trial, trials, selfFit}
-use Rattle.shifts.proofs.SingleLaws.{plain-at}
+use Rattle.hits.proofs.SingleLaws.{singles-at}
 use Rattle.letters.proofs.LetterLaws.{single-same}
-use Rattle.shifts.proofs.SpanLaws.{span-at, span-miss, span-same, span-reach}
+use Rattle.hits.proofs.MetLaws.{met-at, met-miss, met-same}
 use Rattle.shifts.proofs.LeastLaws.{least-same, least-cut}
 
 module _ (P T : List ℕ) (i lo hi : ℕ) where
@@ -30,7 +27,7 @@ module _ (P T : List ℕ) (i lo hi : ℕ) where
   unfolding fit
   fit-out s l = rw (lt-ltb (length T) (i + s + length P) l)
 
-  pub fit-in : (s : ℕ) → i + s + length P ≤ length T → fit P T i lo hi s ≡ span P T (i + s) (lo - s) (covers lo hi s)
+  pub fit-in : (s : ℕ) → i + s + length P ≤ length T → fit P T i lo hi s ≡ met P T (i + s) (lo - s) (covers lo hi s)
   unfolding fit
   fit-in s l = rw (le-ltb (length T) (i + s + length P) l)
 
@@ -44,33 +41,33 @@ module _ (P T : List ℕ) (i lo hi : ℕ) where
 
   -- so does one by all of them
   pub fit-all : (s : ℕ) → hi ≤ s → fit P T i lo hi s ≡ true
-  unfolding fit span
+  unfolding fit met
   fit-all s l = let z : covers lo hi s ≡ 0 = omega arith in rw z (or-true (ltb (length T) (i + s + length P)))
 
   pub unfit-in : (s : ℕ) → fit P T i lo hi s ≡ false → i + s + length P ≤ length T
   unfolding fit
-  unfit-in s e = ltb-false _ _ (or-false-l (ltb (length T) (i + s + length P)) (span P T (i + s) (lo - s) (covers lo hi s)) e)
+  unfit-in s e = ltb-false _ _ (or-false-l (ltb (length T) (i + s + length P)) (met P T (i + s) (lo - s) (covers lo hi s)) e)
 
   -- a start whose shift does not fit is no hit
   pub unfit : (s : ℕ) → lo ≤ hi → hi ≤ length P → fit P T i lo hi s ≡ false → hitAt P T (i + s) ≡ false
   unfolding fit
   unfit s o l e =
       hit-is P T (i + s) (unfit-in s e)
-      ∙ span-miss P T (i + s) (lo - s) (covers lo hi s) (length P) (or-false-r (ltb (length T) (i + s + length P)) _ e) (omega arith)
+      ∙ met-miss P T (i + s) (lo - s) (covers lo hi s) (length P) (or-false-r (ltb (length T) (i + s + length P)) _ e) (omega arith)
 
   -- where the letters of P and of the text there are single, the text shows P itself
-  module _ (o : lo ≤ hi) (meet : span P T i lo (hi - lo) ≡ true) (sp : plain P lo (hi - lo) ≡ true) (st : plain T (i + lo) (hi - lo) ≡ true) where
+  module _ (o : lo ≤ hi) (meet : met P T i lo (hi - lo) ≡ true) (sp : allSingle P lo (hi - lo) ≡ true) (st : allSingle T (i + lo) (hi - lo) ≡ true) where
     same : (x : ℕ) → lo ≤ x → x < hi → getD T (i + x) 0 ≡ getD P x 0
     same x l k =
         sym
-        (single-same _ _ (plain-at P lo (hi - lo) x sp l (omega arith)) (plain-at T (i + lo) (hi - lo) (i + x) st (omega arith) (omega arith))
-        (span-at P T i lo (hi - lo) x meet l (omega arith)))
+        (single-same _ _ (singles-at P lo (hi - lo) x sp l (omega arith)) (singles-at T (i + lo) (hi - lo) (i + x) st (omega arith) (omega arith))
+        (met-at P T i lo (hi - lo) x meet l (omega arith)))
 
     fit-self : (s : ℕ) → fit P T i lo hi s ≡ (ltb (length T) (i + s + length P) || selfFit P lo hi s)
     unfolding fit selfFit
     fit-self s =
         ap (λ (b : Bool). ltb (length T) (i + s + length P) || b)
-        (span-same P T P (i + s) s (lo - s) (covers lo hi s)
+        (met-same P T P (i + s) s (lo - s) (covers lo hi s)
         (λ j l k. let z : i + s + j ≡ i + (s + j) = omega arith in rw z (same (s + j) (omega arith) (omega arith))))
 
     -- the least shift is the pattern's own, cut to the first start past the last
@@ -110,31 +107,3 @@ module _ (P T : List ℕ) (i lo hi : ℕ) where
         (λ e. let l : i + suc d + length P ≤ length T = leb-true _ _ e in omega (arith, trial-le (suc d) (omega arith), left-one d l))
         (λ e. let l : length T < i + suc d + length P = leb-false _ _ e in omega (arith, trial-out (suc d) l, left-le d))))
         (λ n. rw n (omega (arith, trial-le (suc d) (omega arith), left-one d (unfit-in (suc d) n), trials-pay (suc d) f)))
-
--- trials up to hi, by the s that they have come to
-module _ (P T : List ℕ) (i lo hi s : ℕ) where
-  pub trials-here : s < hi → fit P T i lo hi s ≡ true → trials P T i lo hi s (hi - s) ≡ trial P T i lo hi s
-  unfolding trials
-  trials-here l y = let z : hi - s ≡ suc (hi - (s + 1)) = omega arith in rw (z, y) (omega arith)
-
-  pub trials-on : s < hi → fit P T i lo hi s ≡ false → trials P T i lo hi s (hi - s) ≡ trial P T i lo hi s + trials P T i lo hi (s + 1) (hi - (s + 1))
-  unfolding trials
-  trials-on l y = let z : hi - s ≡ suc (hi - (s + 1)) = omega arith in rw (z, y, add-one s)
-
-  pub trials-end : hi ≤ s → trials P T i lo hi s (hi - s) ≡ 0
-  unfolding trials
-  trials-end l = let z : hi - s ≡ 0 = omega arith in rw z
-
-  -- one trial, by how far its scan goes
-  module _ (o : lo ≤ hi) (l : s < hi) (k : i + s + length P ≤ length T) (r : ℕ) (e : r ≡ reach P T (i + s) (lo - s) (hi - s - (lo - s))) where
-    pub trial-is : trial P T i lo hi s ≡ r - (lo - s) + tally (ltb r (hi - s))
-    trial-is =
-        let z : lo - s + (hi - s - (lo - s)) ≡ hi - s = omega arith in
-        let g = reach-ge P T (i + s) (lo - s) (hi - s - (lo - s)) in
-        let w = rw (z, ← e) at (tests-reach P T (i + s) (lo - s) (hi - s - (lo - s))) in
-        omega (arith, trial-in P T i lo hi s k)
-
-    pub fit-is : fit P T i lo hi s ≡ leb (hi - s) r
-    fit-is =
-        let z : lo - s + (hi - s - (lo - s)) ≡ hi - s = omega arith in
-        fit-in P T i lo hi s k ∙ span-reach P T (i + s) (lo - s) (hi - s - (lo - s)) (hi - s - (lo - s)) (omega arith) ∙ rw (z, e)

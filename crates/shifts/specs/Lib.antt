@@ -1,5 +1,2 @@
-pub mod Singles
-pub mod Spans
 pub mod Least
 pub mod Shift
-pub mod Back

@@ -1,10 +1,8 @@
 // What KMP and BM share: the scan of a stretch, and the shift found by trying.
-pub mod back;
-
 use hits::scan::reach_to;
 use hits::work::count;
 ghost use mathlib.Core.Path.{_≡_};
-ghost use Prim.Native.Nat.{ℕ, min, _+_, _-_, _*_, _≤_, _<_};
+ghost use Prim.Native.Nat.{min, max, _+_, _-_, _^_, _≤_, _<_};
 ghost use lib.ListN.{length};
 ghost use Rattle.shifts.specs.Least.{least};
 ghost use Rattle.shifts.specs.Shift.{fit, trials};
@@ -27,15 +25,15 @@ pub fn smaller(a: usize, b: usize) -> usize
     if a < b { a } else { b }
 }
 
-pub fn wide(x: u32) -> usize
-    ensures { λ r. ⌜ r ≡ x ⌝ }
+pub fn larger(a: usize, b: usize) -> usize
+    ensures { λ r. ⌜ r ≡ max a b ⌝ }
 {
-    x as usize
+    if a < b { b } else { a }
 }
 
 // The least shift that fits, by trying s = 1, 2, ..: letters lo to hi - 1 of p meet t at start i.
 pub fn try_shifts(p: &[u32], t: &[u32], i: usize, lo: usize, hi: usize) -> Trials
-    requires { ⌜ (lo ≤ hi) × (0 < hi) × (hi ≤ length (now p)) × (length (now p) ≤ 64) × (i + length (now p) ≤ length (now t)) ⌝ }
+    requires { ⌜ (lo ≤ hi) × (0 < hi) × (hi ≤ length (now p)) × (length (now p) < 2 ^ 32) × (i + length (now p) ≤ length (now t)) ⌝ }
     ensures { λ r. ⌜ (r .by ≡ least (fit (now (p .entry)) (now (t .entry)) i lo hi) 1 (hi - 1)) × (r .tests ≡ trials (now (p .entry)) (now (t .entry)) i lo hi 1 (hi - 1)) ⌝ }
 {
     let n = t.len();

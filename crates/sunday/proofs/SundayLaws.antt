@@ -8,12 +8,15 @@ use borrow.Author.Tests.{eq-eqb, ne-eqb, eqb-true, eqb-false}
 use lib.Dec.{eqb}
 use lib.ListN.{length, getD}
 use Rattle.letters.specs.Members.{keep}
+use Rattle.letters.specs.Sizes.{Sized}
 use Rattle.letters.proofs.Truth.{bool-cases}
 use Rattle.hits.specs.Hits.{within, hitAt, hits}
 use Rattle.hits.specs.Turns.{Turn, Run, idle}
+use Rattle.hits.specs.Counts.{turnOf}
+use Rattle.hits.specs.declared.work.Turned.{Turned}
 use Rattle.hits.proofs.HitLaws.{no-hit, one-from}
 use Rattle.hits.proofs.ScanLaws.{scan-hit, tests-le}
-use Rattle.hits.proofs.RunLaws.{Sound, finds-all, Passing, by-start, per-start, no-start, per-start-small}
+use Rattle.hits.proofs.RunLaws.{Sound, finds-all, Passing, by-start, per-start, no-start, start-small}
 use Rattle.pattern.specs.Last.{afterR}
 use Rattle.pattern.proofs.LastLaws.{last-above, r-le}
 use Rattle.sunday.specs.Sunday.{nextStart, sundayTurn, sundayRun}
@@ -28,9 +31,13 @@ module _ (P T : List ℕ) where
     unfolding nextStart
     next-end e = rw (eq-eqb (i + length P) (length T) e)
 
-    pub next-on : (i + length P ≡ length T → ⊥) → nextStart P T i ≡ i + (length P + 1 - r)
+    next-on : (i + length P ≡ length T → ⊥) → nextStart P T i ≡ i + (length P + 1 - r)
     unfolding nextStart
     next-on n = rw (ne-eqb (i + length P) (length T) n)
+
+    -- the same with R + 1 in hand
+    pub next-by : (i + length P ≡ length T → ⊥) → (x : ℕ) → x ≡ r → (x ≤ length P) × (nextStart P T i + x ≡ i + length P + 1)
+    next-by n x e = omega (arith, next-on n, r-le P (getD T (i + length P) 0))
 
     -- a start that is passed over has the letter after the window under a pattern letter above R
     passed : (j : ℕ) → i < j → j + r ≤ i + length P → hitAt P T j ≡ false
@@ -72,6 +79,11 @@ module _ (P T : List ℕ) where
         right = ap (λ b. keep b i []) (scan-hit P T i l) ∙ sym (one-from P T (nextStart P T i - suc i) i (λ j u v. next-passes i l j u (omega arith)));
       }
 
+  -- the next start is on, and at most one past the text
+  pub turn-ahead : (i : ℕ) → i + length P ≤ length T → (r : Turned) → turnOf i r ≡ sundayTurn P T i → (i < r .next) × (r .next ≤ length T + 1)
+  unfolding sundayTurn
+  turn-ahead i l r e = omega (arith, ap (λ (t : Turn ℕ). t .next) e, next-gt i l, next-le i l)
+
   unfoldable pub sound : Sound P T (within P T) (sundayTurn P T) (suc (length T)) 0
   sound = by-start passing
 
@@ -90,6 +102,6 @@ module _ (P T : List ℕ) where
   unfolding sundayRun
   sunday-idle l = no-start P T (sundayTurn P T) (suc (length T)) l
 
-  -- within the limits it fits a word
-  pub sunday-small : length P ≤ 64 → length T ≤ 65536 → sundayRun P T .scan ≤ 64 * 65537
-  sunday-small h k = per-start-small 64 65536 (length P) (length T) _ sunday-scan h k
+-- within the limits it fits a word
+pub sunday-small : {M N : ℕ} {P T : List ℕ} → Sized M N P T → sundayRun P T .scan ≤ M * (N + 1)
+sunday-small {M} {N} {P} {T} s = start-small s (sundayRun P T .scan) (sunday-scan P T)

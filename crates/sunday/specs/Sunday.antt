@@ -9,7 +9,6 @@ use Rattle.hits.specs.Hits.{within}
 use Rattle.hits.specs.Scans.{reach, tests}
 use Rattle.hits.specs.Turns.{Turn, Run, run}
 use Rattle.pattern.specs.Last.{afterR}
-use Rattle.sunday.specs.declared.Turned.{Turned}
 
 -- the start after i. If i + m = n it is i + 1, which exceeds n - m, so that the run ends; else i is shifted by m - R(T[i+m]), and `afterR` is R + 1
 unfoldable pub nextStart : List ℕ → List ℕ → ℕ → ℕ
@@ -29,7 +28,3 @@ sundayTurn P T i =
 -- from start 0, until the start exceeds n - m
 unfoldable pub sundayRun : List ℕ → List ℕ → Run
 sundayRun P T = run (within P T) (sundayTurn P T) (suc (length T)) 0
-
--- the turn that a step of the code at start i stands for
-abbrev pub turnOf : ℕ → Turned → Turn ℕ
-turnOf i r = record { found = keep (r .hit) i []; next = r .next; scan = r .scan; shift = 0; steps = 0 }

@@ -1,33 +1,42 @@
-// The engine Sunday: tests left to right, then shifts by m - R(T[i+m]), the letter after the window; if i + m = n it ends.
+// The engine Sunday.
+//
+// Its rule: tests left to right, then shifts by m - R(T[i+m]), the letter after the window; if i + m = n it ends.
+//
+// Its source: W. F. Smyth and S. Wang, "An Adaptive Hybrid Pattern-Matching Algorithm on Indeterminate Strings" (002), the BMS algorithm there and figures 2, 3 and 5. Departures:
+//
+// 1. Figure 3 fills its table under the pattern's letter, with the position in place of the shift; here each base letter that the pattern's letter has gets the position, and the shift is worked out from it.
+// 2. Figure 5 reads the letter after the window where there is none, at the text's end; here it is read only if there is one.
+// 3. The letter after the window may be unsure: the greatest R over its members counts, which is the least of their shifts.
+pub mod c;
+mod twice;
+
 use hits::scan::reach_to;
+use hits::work::Turned;
 use hits::work::Work;
 use hits::work::count;
 use hits::work::note;
-use inputs::checks::Text;
 use inputs::checks::checked;
 use inputs::refusal::Answer;
 use inputs::refusal::Check;
 use letters::letter::Letter;
-use pattern::Pattern;
+use letters::strings::Pattern;
+use letters::strings::Text;
+use pattern::Prepared;
 use pattern::after_r;
 ghost use mathlib.Core.Path.{_≡_};
-ghost use Prim.Native.Nat.{_+_, _-_, _*_, _≤_, _<_};
+ghost use Prim.Native.Nat.{_+_, _-_, _*_, _≤_};
 ghost use lib.ListN.{length};
-ghost use Rattle.hits.specs.Hits.{hits, over};
-ghost use Rattle.hits.specs.Counts.{workOf};
+ghost use Rattle.letters.specs.Sizes.{Sized};
+ghost use Rattle.hits.specs.Hits.{hits};
+ghost use Rattle.lent.specs.Over.{over};
+ghost use Rattle.hits.specs.Counts.{workOf, turnOf};
 ghost use Rattle.inputs.specs.Answers.{Searched, scanOf};
 ghost use Rattle.pattern.specs.Tables.{LastTable};
-ghost use Rattle.sunday.specs.Sunday.{nextStart, sundayTurn, sundayRun, turnOf};
-
-struct Turned {
-    hit: bool,
-    next: usize,
-    scan: u64,
-}
+ghost use Rattle.sunday.specs.Sunday.{nextStart, sundayTurn, sundayRun};
 
 // The start after i. The letter after the window is read only if there is one.
-pub fn next_start(p: &[u32], t: &[u32], lasts: &[u32; 32], i: usize) -> usize
-    requires { ⌜ (i + length (now p) ≤ length (now t)) × LastTable 32 (now p) (now lasts) ⌝ }
+pub fn next_start(p: &[u32], t: &[u32], lasts: &[u32; Letter::MAX_K as usize], i: usize) -> usize
+    requires { do ⌜ (i + length (now p) ≤ length (now t)) × LastTable (← ⟦Letter::MAX_K⟧) (now p) (now lasts) ⌝ }
     ensures { λ r. ⌜ r ≡ nextStart (now (p .entry)) (now (t .entry)) i ⌝ }
 {
     let e = i + p.len();
@@ -38,8 +47,8 @@ pub fn next_start(p: &[u32], t: &[u32], lasts: &[u32; 32], i: usize) -> usize
 }
 
 // A turn at start i.
-fn step(p: &[u32], t: &[u32], lasts: &[u32; 32], i: usize) -> Turned
-    requires { ⌜ (length (now p) ≤ 64) × (i + length (now p) ≤ length (now t)) × LastTable 32 (now p) (now lasts) ⌝ }
+fn step(p: &[u32], t: &[u32], lasts: &[u32; Letter::MAX_K as usize], i: usize) -> Turned
+    requires { do ⌜ (i + length (now p) ≤ length (now t)) × LastTable (← ⟦Letter::MAX_K⟧) (now p) (now lasts) ⌝ }
     ensures { λ r. ⌜ turnOf i r ≡ sundayTurn (now (p .entry)) (now (t .entry)) i ⌝ }
 {
     let m = p.len();
@@ -48,17 +57,18 @@ fn step(p: &[u32], t: &[u32], lasts: &[u32; 32], i: usize) -> Turned
         hit: j == m,
         next: next_start(p, t, lasts, i),
         scan: j as u64 + count(j < m),
+        shift: 0,
     }
 }
 
 // The run over all starts.
 fn run(p: &[u32], t: &[u32], list: &mut [u32]) -> Work
-    requires { ⌜ (length (now p) ≤ 64) × (length (now t) ≤ 65536) ⌝ }
+    requires { do ⌜ Sized (← ⟦Pattern::MAX_M⟧) (← ⟦Text::MAX_N⟧) (now p) (now t) ⌝ }
     ensures { λ r. ⌜ (r ≡ workOf (hits (now (p .entry)) (now (t .entry))) (sundayRun (now (p .entry)) (now (t .entry)))) × (now (list .exit) ≡ over (hits (now (p .entry)) (now (t .entry))) (now (list .entry))) ⌝ }
 {
     let m = p.len();
     let n = t.len();
-    let q = Pattern::new(p);
+    let q = Prepared::new(p);
     let lasts = q.lasts;
     let mut i = 0;
     let mut total = 0;

@@ -1,50 +1,58 @@
 // The examples that are run: both sides of every limit, by all six engines, and sheets whose refusal names a place. What is printed is held to
 // the file stdout.
+use engines::engine::Engine;
+use engines::search;
 use inputs::refusal::Answer;
 use inputs::refusal::Refusal;
+use inputs::refusal::Written;
 use letters::width::wide;
 use libc::STDOUT_FILENO;
+use report::Report;
 
 fn words(text: &[u8]) {
     io::write_all(STDOUT_FILENO, text);
 }
 
-fn number(n: u64, after: &[u8]) {
+fn say_number(n: u64, after: &[u8]) {
     io::print_decimal(STDOUT_FILENO, n);
     io::write_all(STDOUT_FILENO, after);
 }
 
-fn refused(r: Refusal) {
+fn say_refusal(r: Refusal) {
     words(b"refused ");
-    number(wide(r.number), b" at ");
-    number(r.place as u64, b"\n");
+    say_number(wide(r.number), b" at ");
+    say_number(r.place as u64, b"\n");
 }
 
 // Total, scan tests, shift tests, word steps; or the refusal.
 fn say(a: Answer) {
     match a {
-        Answer::Refused(r) => refused(r),
+        Answer::Refused(r) => say_refusal(r),
         Answer::Found(w) => {
-            number(w.total as u64, b" ");
-            number(w.scan, b" ");
-            number(w.shift, b" ");
-            number(w.steps, b"\n");
+            say_number(w.total as u64, b" ");
+            say_number(w.scan, b" ");
+            say_number(w.shift, b" ");
+            say_number(w.steps, b"\n");
         }
     }
 }
 
-// By all six engines, with a list of two lent.
+// By all six engines, one after another into the same list.
+fn say_all(k: u32, p: &[u32], t: &[u32], list: &mut [u32]) {
+    let mut i: usize = 0;
+    while i < Engine::COUNT {
+        say(search(Engine::at(i), k, p, t, list));
+        i += 1;
+    }
+}
+
+// The same with a list of two lent, which is said too.
 fn six(what: &[u8], k: u32, p: &[u32], t: &[u32]) {
     words(what);
     let mut list = [7u32; 2];
-    say(brute::search(k, p, t, &mut list));
-    say(kmp::search(k, p, t, &mut list));
-    say(bm::search(k, p, t, &mut list));
-    say(sunday::search(k, p, t, &mut list));
-    say(shiftand::search(k, p, t, &mut list));
-    say(hybrid::search(k, p, t, &mut list));
-    number(wide(list[0]), b" ");
-    number(wide(list[1]), b"\n");
+    say_all(k, p, t, &mut list);
+    say_number(wide(list[0]), b" ");
+    say_number(wide(list[1]), b"\n");
 }
 
 fn sizes_of_k() {
@@ -78,7 +86,7 @@ fn sizes_of_n() {
 }
 
 // a meets [an], [an] meets n, and a does not meet n.
-fn meeting() {
+fn letters_that_meet() {
     let a = [1u32; 1];
     let an = [3u32; 1];
     let n = [2u32; 1];
@@ -96,20 +104,20 @@ fn rooms() {
     let mut four = [7u32; 4];
     let mut none = [7u32; 0];
     words(b"lists\n");
-    say(brute::search(1, &a, &aaa, &mut none));
-    say(kmp::search(1, &a, &aaa, &mut one));
-    say(hybrid::search(1, &a, &aaa, &mut two));
-    say(bm::search(1, &a, &aaa, &mut four));
-    number(wide(one[0]), b" ");
-    number(wide(two[0]), b" ");
-    number(wide(two[1]), b" ");
-    number(wide(four[2]), b" ");
-    number(wide(four[3]), b"\n");
+    say(search(Engine::Brute, 1, &a, &aaa, &mut none));
+    say(search(Engine::Kmp, 1, &a, &aaa, &mut one));
+    say(search(Engine::Hybrid, 1, &a, &aaa, &mut two));
+    say(search(Engine::Bm, 1, &a, &aaa, &mut four));
+    say_number(wide(one[0]), b" ");
+    say_number(wide(two[0]), b" ");
+    say_number(wide(two[1]), b" ");
+    say_number(wide(four[2]), b" ");
+    say_number(wide(four[3]), b"\n");
 }
 
 fn sheet(s: &[u8]) {
-    let mut out = [0u8; 40000];
-    let len = printed::of_sheet(s, &mut out);
+    let mut out = [0u8; Report::MAX_BYTES];
+    let len = printed::of_front(s, s.len(), &mut out);
     words(&out[..len]);
 }
 
@@ -134,14 +142,14 @@ fn capacity() {
     let mut short = [0u8; 90];
     let mut enough = [0u8; 91];
     let s = b"3\naen\n4\nanna\n12\nannann[ae]nann[an]\n";
-    told(report::of_sheet(s, &mut short));
-    told(report::of_sheet(s, &mut enough));
+    say_written(report::of_sheet(s, &mut short));
+    say_written(report::of_sheet(s, &mut enough));
 }
 
-fn told(r: report::Reported) {
+fn say_written(r: Written) {
     match r {
-        report::Reported::Refused(q) => refused(q),
-        report::Reported::Wrote(n) => number(n as u64, b"\n"),
+        Written::Refused(q) => say_refusal(q),
+        Written::Wrote(n) => say_number(n as u64, b"\n"),
     }
 }
 
@@ -149,7 +157,7 @@ fn main() {
     sizes_of_k();
     sizes_of_m();
     sizes_of_n();
-    meeting();
+    letters_that_meet();
     rooms();
     sheets();
     capacity();

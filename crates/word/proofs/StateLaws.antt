@@ -14,6 +14,7 @@ use Rattle.letters.specs.Letters.{meets}
 use Rattle.letters.proofs.Truth.{bool-cases, and-true-l, and-true-r}
 use Rattle.hits.specs.Hits.{met}
 use Rattle.hits.specs.Counts.{tally}
+use Rattle.hits.proofs.MetLaws.{met-last, met-none}
 use Rattle.word.specs.State.{Stepped, alive, Means, Marks}
 
 tally-both : (x y : Bool) → min (tally x) (tally y) ≡ tally (x && y)
@@ -30,23 +31,23 @@ module _ (P T : List ℕ) (a : ℕ) where
   -- nothing is alive where nothing was read
   alive-none : (j : ℕ) → alive P T a a j ≡ false
   unfolding alive
-  alive-none j = ap (λ (b : Bool). b && met P T (a - suc j) (suc j)) (lt-leb (a + suc j) a (omega arith))
+  alive-none j = ap (λ (b : Bool). b && met P T (a - suc j) 0 (suc j)) (lt-leb (a + suc j) a (omega arith))
 
   -- one letter more: the first letter begins a stretch, and each other letter carries one on
   alive-first : (e : ℕ) → a ≤ e → alive P T a (suc e) 0 ≡ meets (getD P 0 0) (getD T e 0)
-  unfolding alive met
+  unfolding alive
   alive-first e l =
       let z : suc e - 1 + 0 ≡ e = omega arith in
-      rw (le-leb (a + 1) (suc e) (omega arith), z)
+      rw (le-leb (a + 1) (suc e) (omega arith), met-last P T (suc e - 1) 0, met-none P T (suc e - 1) 0, z)
 
   alive-next : (e j : ℕ) → alive P T a (suc e) (suc j) ≡ (alive P T a e j && meets (getD P (suc j) 0) (getD T e 0))
-  unfolding alive met
+  unfolding alive
   alive-next e j =
       bool-cases (leb (a + suc j) e)
       (λ y. let l : a + suc j ≤ e = leb-true _ _ y in
       let u : suc e - suc (suc j) ≡ e - suc j = omega arith in
       let z : e - suc j + suc j ≡ e = omega arith in
-      rw (y, le-leb (a + suc (suc j)) (suc e) (omega arith), u, z))
+      rw (y, le-leb (a + suc (suc j)) (suc e) (omega arith), u, met-last P T (e - suc j) (suc j), z))
       (λ n. let l : e < a + suc j = leb-false _ _ n in
       rw (n, lt-leb (a + suc (suc j)) (suc e) (omega arith)))
 
@@ -62,14 +63,14 @@ module _ (P T : List ℕ) (a : ℕ) where
 
   -- the meaning in full: digit j is set exactly if some stretch that began at or after a and ends before e meets the first j + 1 letters
   module _ (e : ℕ) (D : ℕ → ℕ) (d : Means P T a e D) (j : ℕ) where
-    pub set-began : D j ≡ 1 → (s : ℕ) × (a ≤ s) × (s + suc j ≡ e) × (met P T s (suc j) ≡ true)
+    pub set-began : D j ≡ 1 → (s : ℕ) × (a ≤ s) × (s + suc j ≡ e) × (met P T s 0 (suc j) ≡ true)
     unfolding alive
     set-began h =
         let y : alive P T a e j ≡ true = tally-one (alive P T a e j) (sym (d j) ∙ h) in
         let l : a + suc j ≤ e = leb-true _ _ (and-true-l (leb (a + suc j) e) _ y) in
         (e - suc j, omega arith, omega arith, and-true-r (leb (a + suc j) e) _ y)
 
-    pub began-set : (s : ℕ) → a ≤ s → s + suc j ≡ e → met P T s (suc j) ≡ true → D j ≡ 1
+    pub began-set : (s : ℕ) → a ≤ s → s + suc j ≡ e → met P T s 0 (suc j) ≡ true → D j ≡ 1
     unfolding alive
     began-set s l z y =
         let u : e - suc j ≡ s = omega arith in

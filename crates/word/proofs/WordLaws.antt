@@ -3,21 +3,21 @@ use mathlib.Core.Path.{_≡_, refl, sym, ap, _∙_}
 use mathlib.Core.Bool.{Bool, true, false, _&&_}
 use mathlib.Core.List.{List, [], _∷_}
 use Prim.Native.Nat.{ℕ, zero, suc, _+_, _-_, _*_, _/_, _%_, _^_, _≤_, _<_, min}
-use native.Mathlib.Nat.{lt-of-lt-of-le, lt-of-le-of-lt, mod-eq-of-lt, mod-mod}
+use native.Mathlib.Nat.{lt-of-le-of-lt, mod-eq-of-lt, mod-mod}
 use native.Mathlib.Omega.{arith}
 use borrow.Author.Tests.{leb-true, le-leb}
 use lib.Bits.{bitAnd, bitOr, and-mod, or-mod, and-le-r, or-shifted}
 use lib.Dec.{eqb, leb}
 use lib.ListN.{length, getD}
-use lib.Pow.{pow-mono}
 use Rattle.letters.specs.Digits.{digit}
 use Rattle.letters.specs.Letters.{meets}
 use Rattle.letters.proofs.Truth.{bool-cases, both-ways}
-use Rattle.letters.proofs.DigitLaws.{digit-zero, digit-low, digit-up, digit-and, digit-ext, below-power}
+use Rattle.letters.proofs.DigitLaws.{digit-zero, digit-low, digit-up, digit-and, digits-same}
 use Rattle.letters.proofs.LetterLaws.{meets-none}
 use Rattle.hits.specs.Hits.{met, hitAt}
 use Rattle.hits.specs.Counts.{tally}
-use Rattle.hits.proofs.HitLaws.{met-less, hit-is, hit-met}
+use Rattle.hits.proofs.HitLaws.{hit-is, hit-met}
+use Rattle.hits.proofs.MetLaws.{met-less}
 use Rattle.word.specs.State.{Stepped, alive, Means, Marks}
 use Rattle.word.specs.Word.{moved, positions, stepped, isSet}
 use Rattle.word.proofs.StateLaws.{cleared, step-means}
@@ -25,11 +25,6 @@ use Rattle.word.proofs.StateLaws.{cleared, step-means}
 -- the digits of a number
 abbrev pub digits : ℕ → ℕ → ℕ
 digits w j = digit j w
-
--- two numbers with the same digits are the same, however long they are
-pub digits-same : (x y : ℕ) → ((j : ℕ) → digit j x ≡ digit j y) → x ≡ y
-digits-same x y e =
-    digit-ext (x + y) x y (lt-of-lt-of-le (below-power x) (pow-mono (omega arith))) (lt-of-lt-of-le (below-power y) (pow-mono (omega arith))) (λ j l. e j)
 
 tally-lt : (b : Bool) → tally b < 2
 tally-lt true = omega arith
@@ -109,7 +104,7 @@ module _ (P T : List ℕ) (a : ℕ) where
     top-hit p l =
         let h : suc (length P - 1) ≡ length P = omega arith in
         set-alive (length P - 1)
-        ∙ ap (λ (k : ℕ). leb (a + k) e && met P T (e - k) k) h
+        ∙ ap (λ (k : ℕ). leb (a + k) e && met P T (e - k) 0 k) h
         ∙ bool-cases (leb (a + length P) e)
         (λ y. let u : a + length P ≤ e = leb-true _ _ y in rw y (sym (hit-is P T (e - length P) (omega arith))))
         (λ n. rw n)
@@ -121,5 +116,5 @@ module _ (P T : List ℕ) (a : ℕ) where
       let u : suc (e - i - 1) ≡ e - i = omega arith in
       let v : e - (e - i) ≡ i = omega arith in
       let x : alive P T a e (e - i - 1) ≡ false = tally-none _ (sym (m (e - i - 1)) ∙ digit-zero (e - i - 1)) in
-      let y : met P T i (e - i) ≡ false = rw (u, le-leb (a + (e - i)) e (omega arith), v) at x in
-      bool-cases (hitAt P T i) (λ t. absurd (both-ways (met P T i (e - i)) (met-less P T i (length P) (e - i) (hit-met P T i t) (omega arith)) y)) (λ n. n)
+      let y : met P T i 0 (e - i) ≡ false = rw (u, le-leb (a + (e - i)) e (omega arith), v) at x in
+      bool-cases (hitAt P T i) (λ t. absurd (both-ways (met P T i 0 (e - i)) (met-less P T i (length P) (e - i) (hit-met P T i t) (omega arith)) y)) (λ n. n)

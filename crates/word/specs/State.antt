@@ -23,7 +23,7 @@ abbrev pub Stepped : (ℕ → ℕ) → (ℕ → ℕ) → (ℕ → ℕ) → Type 
 Stepped D M D′ = (j : ℕ) → D′ j ≡ min (below D j) (M j)
 
 unfoldable pub alive : List ℕ → List ℕ → ℕ → ℕ → ℕ → Bool
-alive P T a e j = leb (a + suc j) e && met P T (e - suc j) (suc j)
+alive P T a e j = leb (a + suc j) e && met P T (e - suc j) 0 (suc j)
 
 -- digit j is set exactly if the first j + 1 letters are alive
 abbrev pub Means : List ℕ → List ℕ → ℕ → ℕ → (ℕ → ℕ) → Type 0

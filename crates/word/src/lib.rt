@@ -2,8 +2,9 @@
 use hits::work::note;
 use letters::letter::Letter;
 use letters::members::union;
+use letters::strings::Pattern;
 ghost use mathlib.Core.Path.{_≡_};
-ghost use Prim.Native.Nat.{_+_, _-_, _<_};
+ghost use Prim.Native.Nat.{_+_, _-_, _^_, _<_};
 ghost use Rattle.letters.specs.Members.{members, unionOf};
 ghost use Rattle.hits.specs.Counts.{tally, noted};
 ghost use Rattle.word.specs.Word.{moved, isSet};
@@ -16,7 +17,7 @@ pub fn word_step(d: u64, mask: u64) -> u64
 }
 
 // The word step at the text letter c, from the rows of the pattern's masks.
-pub fn advance(rows: &[u64; 32], c: u32, d: u64) -> u64
+pub fn advance(rows: &[u64; Letter::MAX_K as usize], c: u32, d: u64) -> u64
     ensures { λ r. do ⌜ r ≡ moved d (unionOf (now (rows .entry)) (members (← ⟦Letter::MAX_K⟧ .entry) c)) ⌝ }
 {
     word_step(d, union(rows, c))
@@ -24,7 +25,7 @@ pub fn advance(rows: &[u64; 32], c: u32, d: u64) -> u64
 
 // Whether digit j is set.
 pub fn is_set(d: u64, j: usize) -> bool
-    requires { ⌜ j < 64 ⌝ }
+    requires { do ⌜ j < (← ⟦Pattern::MAX_M⟧) ⌝ }
     ensures { λ r. ⌜ r ≡ isSet j d ⌝ }
 {
     (d >> j) % 2 == 1
@@ -42,7 +43,7 @@ fn start_of(e: usize, m: usize) -> usize
 
 // Notes a hit of m letters that ends before e. Its start is worked out for a hit alone, so that a letter that ends none costs nothing here.
 pub fn note_end(list: &mut [u32], total: usize, e: usize, m: usize, hit: bool) -> usize
-    requires { ⌜ (total < 4294967296) × (e < 4294967296) ⌝ }
+    requires { ⌜ (total < 2 ^ 32) × (e < 2 ^ 32) ⌝ }
     ensures { λ r. ⌜ (r ≡ total + tally hit) × (now (list .exit) ≡ noted hit (now (list .entry)) total (e - m)) ⌝ }
 {
     if !hit {

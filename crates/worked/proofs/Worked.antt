@@ -3,18 +3,19 @@ use mathlib.Core.Path.{_≡_, refl}
 use mathlib.Core.List.{map}
 use lib.Count.{ones, onesIn}
 use Rattle.letters.specs.Digits.{digit}
+use Rattle.letters.specs.First.{firstWith}
 use Rattle.letters.specs.Letters.{member, shared, meets, single}
 use Rattle.letters.specs.Members.{membersFrom, members}
-use Rattle.hits.specs.Hits.{met, hitAt, hitsFrom, hits, over}
+use Rattle.letters.specs.Sizes.{outside}
+use Rattle.hits.specs.Hits.{met, hitAt, hitsFrom, hits}
+use Rattle.lent.specs.Over.{over}
 use Rattle.hits.specs.Turns.{run}
-use Rattle.hits.specs.Scans.{reach, tests}
-use Rattle.shifts.specs.Singles.{plain}
-use Rattle.shifts.specs.Spans.{span}
+use Rattle.hits.specs.Scans.{reach, tests, back, backTests}
+use Rattle.hits.specs.Singles.{allSingle}
 use Rattle.shifts.specs.Least.{least}
 use Rattle.shifts.specs.Shift.{fit, trial, trials}
-use Rattle.shifts.specs.Back.{back, backTests}
 use Rattle.pattern.specs.Last.{lastIn, afterR}
-use Rattle.inputs.specs.Refusals.{bad, firstBad, refuse, verdict}
+use Rattle.inputs.specs.Refusals.{bad, refuse, verdict}
 use Rattle.brute.specs.Brute.{bruteTurn, bruteRun}
 use Rattle.kmp.specs.Kmp.{nowMet, shiftBy, shiftTests, kmpTurn, kmpRun}
 use Rattle.bm.specs.Bm.{firstShift, firstTests, failShift, secondShift, bmTurn, bmRun}
@@ -23,13 +24,21 @@ use Rattle.word.specs.Word.{moved, positions, stepped, isSet}
 use Rattle.shiftand.specs.ShiftAnd.{shiftandTurn, shiftandRun}
 use Rattle.hybrid.specs.Stretches.{stretch}
 use Rattle.hybrid.specs.Hybrid.{hybridTurn, hybridRun}
-use Rattle.products.specs.Primes.{primes, product, prime, productOf, firstProduct, divides, isProduct, dividing, letterOf}
-use Rattle.products.specs.Conversions.{firstOther, alphabetThen, sizesThen, verdict as conversion, toVerdict, fromVerdict}
+use Rattle.products.specs.Primes.{primes, product, prime, productOf, firstProduct, divides, isProduct, other, dividing, letterOf}
+use Rattle.products.specs.Conversions.{alphabetThen, sizesThen, convertVerdict, toVerdict, fromVerdict}
 use Rattle.products.specs.Gcd.{commonUpTo, gcd}
 use Rattle.products.specs.Meetings.{pairVerdict, productsMeet}
+use Rattle.decimal.specs.Decimal.{isDigit, frontDigits, value, decimalTo, decimal, ended}
+use Rattle.decimal.specs.CountLine.{rightCount, countAt}
+use Rattle.notation.specs.Alphabet.{plain, fresh, freshFrom, endAt, alphabetAt}
+use Rattle.notation.specs.Reader.{mayFollow, inner, byteMove, readFrom}
+use Rattle.sheet.specs.Reader.{refuseAt, alphabetSection, letterLine, letterSection, textSection, stringSections, planning, reading}
+use Rattle.reportbytes.specs.Bytes.{startLines, counts, engineLine, engineLines, bytesOf}
+use Rattle.report.specs.Values.{valuesOf}
+use Rattle.report.specs.Report.{readAlone, fitting, reportFor}
 use Rattle.worked.specs.Asked.{given}
 use Rattle.worked.specs.Table.{Example, examples}
 
 pub worked : map (λ (e : Example). given (e .asked)) examples ≡ map (λ (e : Example). e .due) examples
-unfolding ones onesIn digit member shared meets single membersFrom members met hitAt hitsFrom hits over run reach tests plain span least fit trial trials back backTests lastIn afterR bad firstBad refuse verdict bruteTurn bruteRun nowMet shiftBy shiftTests kmpTurn kmpRun firstShift firstTests failShift secondShift bmTurn bmRun nextStart sundayTurn sundayRun moved positions stepped isSet shiftandTurn shiftandRun stretch hybridTurn hybridRun primes product prime productOf firstProduct divides isProduct dividing letterOf firstOther alphabetThen sizesThen conversion toVerdict fromVerdict commonUpTo gcd pairVerdict productsMeet
+unfolding ones onesIn digit firstWith member shared meets single membersFrom members outside met hitAt hitsFrom hits over run reach tests allSingle least fit trial trials back backTests lastIn afterR bad refuse verdict bruteTurn bruteRun nowMet shiftBy shiftTests kmpTurn kmpRun firstShift firstTests failShift secondShift bmTurn bmRun nextStart sundayTurn sundayRun moved positions stepped isSet shiftandTurn shiftandRun stretch hybridTurn hybridRun primes product prime productOf firstProduct divides isProduct other dividing letterOf alphabetThen sizesThen convertVerdict toVerdict fromVerdict commonUpTo gcd pairVerdict productsMeet isDigit frontDigits value rightCount countAt plain fresh freshFrom endAt alphabetAt mayFollow inner byteMove readFrom refuseAt alphabetSection letterLine letterSection textSection stringSections planning reading readAlone valuesOf decimalTo decimal ended startLines counts engineLine engineLines bytesOf fitting reportFor
 worked = refl

@@ -3,53 +3,41 @@ use Prim.Native.Nat.{ℕ}
 use mathlib.Core.List.{List, map}
 use lib.ListN.{length}
 use Rattle.hits.specs.Hits.{hits}
-use Rattle.hits.specs.Turns.{Run}
 use Rattle.inputs.specs.Refusals.{verdict}
-use Rattle.inputs.specs.Answers.{answerOf, listOf}
+use Rattle.inputs.specs.Answers.{answerOf, writtenOf, listOf}
 use Rattle.inputs.specs.declared.refusal.Answer.{Answer}
-use Rattle.brute.specs.Brute.{bruteRun}
-use Rattle.kmp.specs.Kmp.{kmpRun}
-use Rattle.bm.specs.Bm.{bmRun}
-use Rattle.sunday.specs.Sunday.{sundayRun}
-use Rattle.shiftand.specs.ShiftAnd.{shiftandRun}
-use Rattle.hybrid.specs.Hybrid.{hybridRun}
+use Rattle.inputs.specs.declared.refusal.Written.{Written}
+use Rattle.engines.specs.declared.engine.Engine.{Engine}
+use Rattle.engines.specs.Engines.{runOf}
+use Rattle.sheet.specs.Reader.{Outcome}
+use Rattle.sheet.specs.Answers.{checkOf}
+use Rattle.report.specs.Report.{reportFor, bytesIn}
 use Rattle.products.specs.Primes.{productOf, letterOf}
-use Rattle.products.specs.Conversions.{toVerdict, fromVerdict, convertedOf}
+use Rattle.products.specs.Conversions.{toVerdict, fromVerdict}
 use Rattle.products.specs.Meetings.{pairVerdict, productsMeet, meetingOf}
-use Rattle.products.specs.declared.convert.Converted.{Converted}
 use Rattle.products.specs.declared.meeting.Meeting.{Meeting}
-
-pub data Engine : Type 0 where
-  brute : Engine
-  kmp : Engine
-  bm : Engine
-  sunday : Engine
-  shiftand : Engine
-  hybrid : Engine
-
-abbrev pub runOf : Engine → List ℕ → List ℕ → Run
-runOf brute = bruteRun
-runOf kmp = kmpRun
-runOf bm = bmRun
-runOf sunday = sundayRun
-runOf shiftand = shiftandRun
-runOf hybrid = hybridRun
 
 -- a search by an engine for a pattern in a text over k base letters, with a list lent; letters to products and back, with a list lent; two products
 pub data Asked : Type 0 where
-  search : Engine → ℕ → List ℕ → List ℕ → List ℕ → Asked
-  toProducts : ℕ → List ℕ → List ℕ → Asked
-  fromProducts : ℕ → List ℕ → List ℕ → Asked
-  meeting : ℕ → ℕ → ℕ → Asked
+  askSearch : Engine → ℕ → List ℕ → List ℕ → List ℕ → Asked
+  askProducts : ℕ → List ℕ → List ℕ → Asked
+  askLetters : ℕ → List ℕ → List ℕ → Asked
+  askMeeting : ℕ → ℕ → ℕ → Asked
+  askReport : List ℕ → List ℕ → Asked
 
 -- what is answered, and what the lent list holds afterwards
-pub data Given : Type 0 where
-  searched : Answer → List ℕ → Given
-  converted : Converted → List ℕ → Given
-  met : Meeting → Given
+pub data Handed : Type 0 where
+  giveSearch : Answer → List ℕ → Handed
+  giveList : Written → List ℕ → Handed
+  giveMeeting : Meeting → Handed
 
-abbrev pub given : Asked → Given
-given (search e k P T d) = searched (answerOf (verdict 32 64 65536 k P T) (hits P T) (runOf e P T)) (listOf (verdict 32 64 65536 k P T) (hits P T) d)
-given (toProducts k cs d) = converted (convertedOf (toVerdict 32 9 65536 k cs (length d)) (map productOf cs)) (listOf (toVerdict 32 9 65536 k cs (length d)) (map productOf cs) d)
-given (fromProducts k vs d) = converted (convertedOf (fromVerdict 32 9 65536 k vs (length d)) (map letterOf vs)) (listOf (fromVerdict 32 9 65536 k vs (length d)) (map letterOf vs) d)
-given (meeting k a b) = met (meetingOf (pairVerdict 32 9 k a b) (productsMeet a b))
+-- the bytes over the front of the lent list, or the refusal
+abbrev giveOutcome : Outcome (List ℕ) → List ℕ → Handed
+giveOutcome o d = giveList (writtenOf (checkOf o) (bytesIn o)) (listOf (checkOf o) (bytesIn o) d)
+
+abbrev pub given : Asked → Handed
+given (askSearch e k P T d) = giveSearch (answerOf (verdict 32 64 65536 k P T) (hits P T) (runOf e P T)) (listOf (verdict 32 64 65536 k P T) (hits P T) d)
+given (askProducts k cs d) = giveList (writtenOf (toVerdict 32 9 65536 k cs (length d)) (map productOf cs)) (listOf (toVerdict 32 9 65536 k cs (length d)) (map productOf cs) d)
+given (askLetters k vs d) = giveList (writtenOf (fromVerdict 32 9 65536 k vs (length d)) (map letterOf vs)) (listOf (fromVerdict 32 9 65536 k vs (length d)) (map letterOf vs) d)
+given (askMeeting k a b) = giveMeeting (meetingOf (pairVerdict 32 9 k a b) (productsMeet a b))
+given (askReport s d) = giveOutcome (reportFor 8192 32 64 65536 s (length d)) d

@@ -1,17 +1,19 @@
 -- The starred examples, over the alphabet aen: a is 1, e is 2, n is 4, [ae] 3, [an] 5, * 7. A lent list holds 9s.
 use Prim.Native.Nat.{ℕ}
 use mathlib.Core.Bool.{true, false}
-use mathlib.Core.List.{List, [], _∷_}
+use mathlib.Core.List.{List, [], _∷_, _++_}
+use lib.ListN.{replicate}
 use Rattle.inputs.specs.declared.refusal.Answer.{Answer}
 use Rattle.inputs.specs.declared.refusal.Answer.the-variants.{Found, Refused}
-use Rattle.products.specs.declared.convert.Converted.{Converted}
-use Rattle.products.specs.declared.convert.Converted.the-variants.{Done, Refused as ConvertedRefused}
+use Rattle.inputs.specs.declared.refusal.Written.the-variants.{Wrote, Refused as WriteRefused}
+use Rattle.engines.specs.declared.engine.Engine.{Engine}
+use Rattle.engines.specs.declared.engine.Engine.the-variants.{Brute, Kmp, Bm, Sunday, ShiftAnd, Hybrid}
 use Rattle.products.specs.declared.meeting.Meeting.the-variants.{Known}
-use Rattle.worked.specs.Asked.{Engine, brute, kmp, bm, sunday, shiftand, hybrid, Asked, search, toProducts, fromProducts, meeting, Given, searched, converted, met}
+use Rattle.worked.specs.Asked.{Asked, askSearch, askReport, askProducts, askLetters, askMeeting, Handed, giveSearch, giveList, giveMeeting}
 
 pub record Example : Type 0 where
   pub asked : Asked
-  pub due : Given
+  pub due : Handed
 
 abbrev blank : List ℕ
 blank = 9 ∷ 9 ∷ 9 ∷ 9 ∷ []
@@ -19,14 +21,14 @@ blank = 9 ∷ 9 ∷ 9 ∷ 9 ∷ []
 -- a search with a list of four lent: total, scan tests, shift tests, word steps, and the list afterwards
 abbrev finds : Engine → List ℕ → List ℕ → ℕ → ℕ → ℕ → ℕ → List ℕ → Example
 finds e P T total scan shift steps left =
-    record { asked = search e 3 P T blank; due = searched (Found (record { total = total; scan = scan; shift = shift; steps = steps })) left }
+    record { asked = askSearch e 3 P T blank; due = giveSearch (Found (record { total = total; scan = scan; shift = shift; steps = steps })) left }
 
 abbrev refuses : Engine → List ℕ → List ℕ → ℕ → ℕ → Example
-refuses e P T number place = record { asked = search e 3 P T blank; due = searched (Refused (record { number = number; place = place })) blank }
+refuses e P T number place = record { asked = askSearch e 3 P T blank; due = giveSearch (Refused (record { number = number; place = place })) blank }
 
 -- a value that is no product for k = 3
 abbrev noProduct : ℕ → Example
-noProduct v = record { asked = fromProducts 3 (v ∷ []) blank; due = converted (ConvertedRefused (record { number = 7; place = 0 })) blank }
+noProduct v = record { asked = askLetters 3 (v ∷ []) blank; due = giveList (WriteRefused (record { number = 7; place = 0 })) blank }
 
 abbrev anna : List ℕ
 anna = 1 ∷ 4 ∷ 4 ∷ 1 ∷ []
@@ -40,51 +42,89 @@ three = 0 ∷ 3 ∷ 8 ∷ 9 ∷ []
 abbrev an : List ℕ
 an = 1 ∷ 4 ∷ []
 
+-- the worked sheet, and its report
+abbrev sheet : List ℕ
+sheet =
+    51 ∷ 10 ∷
+    97 ∷ 101 ∷ 110 ∷ 10 ∷
+    52 ∷ 10 ∷
+    97 ∷ 110 ∷ 110 ∷ 97 ∷ 10 ∷
+    49 ∷ 50 ∷ 10 ∷
+    97 ∷ 110 ∷ 110 ∷ 97 ∷ 110 ∷ 110 ∷ 91 ∷ 97 ∷ 101 ∷ 93 ∷ 110 ∷ 97 ∷ 110 ∷ 110 ∷ 91 ∷ 97 ∷ 110 ∷ 93 ∷ 10 ∷ []
+
+abbrev report : List ℕ
+report =
+    104 ∷ 105 ∷ 116 ∷ 115 ∷ 32 ∷ 51 ∷ 10 ∷
+    48 ∷ 10 ∷
+    51 ∷ 10 ∷
+    56 ∷ 10 ∷
+    98 ∷ 114 ∷ 117 ∷ 116 ∷ 101 ∷ 32 ∷ 50 ∷ 48 ∷ 32 ∷ 48 ∷ 32 ∷ 48 ∷ 10 ∷
+    107 ∷ 109 ∷ 112 ∷ 32 ∷ 49 ∷ 51 ∷ 32 ∷ 52 ∷ 32 ∷ 48 ∷ 10 ∷
+    98 ∷ 109 ∷ 32 ∷ 49 ∷ 52 ∷ 32 ∷ 51 ∷ 32 ∷ 48 ∷ 10 ∷
+    115 ∷ 117 ∷ 110 ∷ 100 ∷ 97 ∷ 121 ∷ 32 ∷ 49 ∷ 53 ∷ 32 ∷ 48 ∷ 32 ∷ 48 ∷ 10 ∷
+    115 ∷ 104 ∷ 105 ∷ 102 ∷ 116 ∷ 97 ∷ 110 ∷ 100 ∷ 32 ∷ 48 ∷ 32 ∷ 48 ∷ 32 ∷ 49 ∷ 50 ∷ 10 ∷
+    104 ∷ 121 ∷ 98 ∷ 114 ∷ 105 ∷ 100 ∷ 32 ∷ 49 ∷ 32 ∷ 48 ∷ 32 ∷ 49 ∷ 50 ∷ 10 ∷ []
+
+-- `3`, `aen`, `1`, these bytes, `0` and an empty line
+abbrev sheetWith : List ℕ → List ℕ
+sheetWith xs = 51 ∷ 10 ∷ 97 ∷ 101 ∷ 110 ∷ 10 ∷ 49 ∷ 10 ∷ (xs ++ (10 ∷ 48 ∷ 10 ∷ 10 ∷ []))
+
+-- a sheet that is refused, with its number and place
+abbrev refusesSheet : List ℕ → ℕ → ℕ → Example
+refusesSheet s number place = record { asked = askReport s blank; due = giveList (WriteRefused (record { number = number; place = place })) blank }
+
 abbrev pub examples : List Example
 examples =
     -- the worked sheet
-    finds brute anna page 3 20 0 0 three
-    ∷ finds kmp anna page 3 13 4 0 three
-    ∷ finds bm anna page 3 14 3 0 three
-    ∷ finds sunday anna page 3 15 0 0 three
-    ∷ finds shiftand anna page 3 0 0 12 three
-    ∷ finds hybrid anna page 3 1 0 12 three
+    finds Brute anna page 3 20 0 0 three
+    ∷ finds Kmp anna page 3 13 4 0 three
+    ∷ finds Bm anna page 3 14 3 0 three
+    ∷ finds Sunday anna page 3 15 0 0 three
+    ∷ finds ShiftAnd anna page 3 0 0 12 three
+    ∷ finds Hybrid anna page 3 1 0 12 three
     -- aan in aa[an]n
-    ∷ finds brute (1 ∷ 1 ∷ 4 ∷ []) (1 ∷ 1 ∷ 5 ∷ 4 ∷ []) 2 6 0 0 (0 ∷ 1 ∷ 9 ∷ 9 ∷ [])
-    ∷ finds kmp (1 ∷ 1 ∷ 4 ∷ []) (1 ∷ 1 ∷ 5 ∷ 4 ∷ []) 2 4 2 0 (0 ∷ 1 ∷ 9 ∷ 9 ∷ [])
+    ∷ finds Brute (1 ∷ 1 ∷ 4 ∷ []) (1 ∷ 1 ∷ 5 ∷ 4 ∷ []) 2 6 0 0 (0 ∷ 1 ∷ 9 ∷ 9 ∷ [])
+    ∷ finds Kmp (1 ∷ 1 ∷ 4 ∷ []) (1 ∷ 1 ∷ 5 ∷ 4 ∷ []) 2 4 2 0 (0 ∷ 1 ∷ 9 ∷ 9 ∷ [])
     -- an in eeean
-    ∷ finds hybrid an (2 ∷ 2 ∷ 2 ∷ 1 ∷ 4 ∷ []) 1 2 0 2 (3 ∷ 9 ∷ 9 ∷ 9 ∷ [])
+    ∷ finds Hybrid an (2 ∷ 2 ∷ 2 ∷ 1 ∷ 4 ∷ []) 1 2 0 2 (3 ∷ 9 ∷ 9 ∷ 9 ∷ [])
+    ∷ finds ShiftAnd an (2 ∷ 2 ∷ 2 ∷ 1 ∷ 4 ∷ []) 1 0 0 5 (3 ∷ 9 ∷ 9 ∷ 9 ∷ [])
     -- * in *
-    ∷ finds brute (7 ∷ []) (7 ∷ []) 1 1 0 0 (0 ∷ 9 ∷ 9 ∷ 9 ∷ [])
+    ∷ finds Brute (7 ∷ []) (7 ∷ []) 1 1 0 0 (0 ∷ 9 ∷ 9 ∷ 9 ∷ [])
     -- e in a
-    ∷ finds brute (2 ∷ []) (1 ∷ []) 0 1 0 0 blank
+    ∷ finds Brute (2 ∷ []) (1 ∷ []) 0 1 0 0 blank
     -- an in a, and in the empty text: all counts 0
-    ∷ finds brute an (1 ∷ []) 0 0 0 0 blank
-    ∷ finds kmp an (1 ∷ []) 0 0 0 0 blank
-    ∷ finds bm an (1 ∷ []) 0 0 0 0 blank
-    ∷ finds sunday an (1 ∷ []) 0 0 0 0 blank
-    ∷ finds shiftand an (1 ∷ []) 0 0 0 0 blank
-    ∷ finds hybrid an (1 ∷ []) 0 0 0 0 blank
-    ∷ finds brute an [] 0 0 0 0 blank
-    ∷ finds kmp an [] 0 0 0 0 blank
-    ∷ finds bm an [] 0 0 0 0 blank
-    ∷ finds sunday an [] 0 0 0 0 blank
-    ∷ finds shiftand an [] 0 0 0 0 blank
-    ∷ finds hybrid an [] 0 0 0 0 blank
+    ∷ finds Brute an (1 ∷ []) 0 0 0 0 blank
+    ∷ finds Kmp an (1 ∷ []) 0 0 0 0 blank
+    ∷ finds Bm an (1 ∷ []) 0 0 0 0 blank
+    ∷ finds Sunday an (1 ∷ []) 0 0 0 0 blank
+    ∷ finds ShiftAnd an (1 ∷ []) 0 0 0 0 blank
+    ∷ finds Hybrid an (1 ∷ []) 0 0 0 0 blank
+    ∷ finds Brute an [] 0 0 0 0 blank
+    ∷ finds Kmp an [] 0 0 0 0 blank
+    ∷ finds Bm an [] 0 0 0 0 blank
+    ∷ finds Sunday an [] 0 0 0 0 blank
+    ∷ finds ShiftAnd an [] 0 0 0 0 blank
+    ∷ finds Hybrid an [] 0 0 0 0 blank
     -- a in aaa with a list of one
-    ∷ record { asked = search brute 3 (1 ∷ []) (1 ∷ 1 ∷ 1 ∷ []) (9 ∷ []); due = searched (Found (record { total = 3; scan = 3; shift = 0; steps = 0 })) (0 ∷ []) }
+    ∷ record { asked = askSearch Brute 3 (1 ∷ []) (1 ∷ 1 ∷ 1 ∷ []) (9 ∷ []); due = giveSearch (Found (record { total = 3; scan = 3; shift = 0; steps = 0 })) (0 ∷ []) }
     -- text letter 8 at index 2; bad letters in both
-    ∷ refuses brute (1 ∷ []) (1 ∷ 1 ∷ 8 ∷ []) 5 2
-    ∷ refuses brute (8 ∷ []) (1 ∷ 1 ∷ 8 ∷ []) 4 0
+    ∷ refuses Brute (1 ∷ []) (1 ∷ 1 ∷ 8 ∷ []) 5 2
+    ∷ refuses Brute (8 ∷ []) (1 ∷ 1 ∷ 8 ∷ []) 4 0
     -- products: [ae] 6, n 5, * 30, and back
-    ∷ record { asked = toProducts 3 (3 ∷ 4 ∷ 7 ∷ []) blank; due = converted (Done 3) (6 ∷ 5 ∷ 30 ∷ 9 ∷ []) }
-    ∷ record { asked = fromProducts 3 (6 ∷ 5 ∷ 30 ∷ []) blank; due = converted (Done 3) (3 ∷ 4 ∷ 7 ∷ 9 ∷ []) }
+    ∷ record { asked = askProducts 3 (3 ∷ 4 ∷ 7 ∷ []) blank; due = giveList (Wrote 3) (6 ∷ 5 ∷ 30 ∷ 9 ∷ []) }
+    ∷ record { asked = askLetters 3 (6 ∷ 5 ∷ 30 ∷ []) blank; due = giveList (Wrote 3) (3 ∷ 4 ∷ 7 ∷ 9 ∷ []) }
     -- 6 meets 10, not 5
-    ∷ record { asked = meeting 3 6 10; due = met (Known true) }
-    ∷ record { asked = meeting 3 6 5; due = met (Known false) }
+    ∷ record { asked = askMeeting 3 6 10; due = giveMeeting (Known true) }
+    ∷ record { asked = askMeeting 3 6 5; due = giveMeeting (Known false) }
     -- 0, 1, 4, 7 are refused for k = 3
     ∷ noProduct 0
     ∷ noProduct 1
     ∷ noProduct 4
     ∷ noProduct 7
+    -- the worked sheet, bytes in and report bytes out
+    ∷ record { asked = askReport sheet (replicate 92 9); due = giveList (Wrote 91) (report ++ (9 ∷ [])) }
+    -- [ea] is wrong at the a, [a] at the ]; the worked sheet where four bytes are lent
+    ∷ refusesSheet (sheetWith (91 ∷ 101 ∷ 97 ∷ 93 ∷ [])) 13 10
+    ∷ refusesSheet (sheetWith (91 ∷ 97 ∷ 93 ∷ [])) 13 10
+    ∷ refusesSheet sheet 8 0
     ∷ []

@@ -3,13 +3,15 @@ use mathlib.Core.Path.{_≡_, refl}
 use mathlib.Core.List.{List, [], _∷_, map}
 use Prim.Native.Nat.{ℕ}
 use Rattle.letters.specs.Digits.{digit}
+use Rattle.letters.specs.First.{firstWith}
 use Rattle.letters.specs.Letters.{member}
 use Rattle.letters.specs.Members.{membersFrom, members}
+use Rattle.letters.specs.Sizes.{outside}
 use Rattle.decimal.specs.Decimal.{decimalTo, decimal}
-use Rattle.inputs.specs.Refusals.{bad, firstBad, refuse, verdict}
+use Rattle.inputs.specs.Refusals.{bad, refuse, verdict}
 use Rattle.inputs.specs.declared.refusal.Check.{Check}
 use Rattle.inputs.specs.declared.refusal.Check.the-variants.{Passed, Refused}
-use Rattle.notation.specs.Alphabet.{plain, find, fresh, freshFrom}
+use Rattle.notation.specs.Alphabet.{plain, fresh, freshFrom}
 use Rattle.notation.specs.Spelling.{pick, spelling, spell, line}
 use Rattle.sheet.specs.Bytes.{sheetBytes}
 use Rattle.writer.specs.Writer.{checks}
@@ -40,7 +42,7 @@ abbrev due : Case → Check
 due c = c .check
 
 pub table : map checkOf cases ≡ map due cases
-unfolding plain find fresh freshFrom bad firstBad refuse verdict checks
+unfolding firstWith outside plain fresh freshFrom bad refuse verdict checks
 table = refl
 
 -- over `aen`, the pattern `*n` and the text `[an]e`

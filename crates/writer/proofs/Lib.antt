@@ -1,4 +1,4 @@
-pub mod LineLaws
+pub mod SheetLaws
 pub mod CheckLaws
 pub mod RoundTrip
 pub mod Examples

@@ -1,29 +1,22 @@
 -- The round trip of the two calls: what the writer wrote is read as it was given, and what the reader read is written as it was. Assumes nothing.
-use mathlib.Core.Path.{_≡_, refl, sym, ap}
+use mathlib.Core.Path.{_≡_, sym, ap}
 use mathlib.Core.List.{List}
 use Prim.Native.Nat.{ℕ, _≤_, _<_}
 use native.Mathlib.Omega.{arith}
 use lib.ListN.{length}
-use Rattle.inputs.specs.declared.refusal.Check.{Check}
-use Rattle.inputs.specs.declared.refusal.Check.the-variants.{Passed, Refused}
+use Rattle.inputs.specs.declared.refusal.Check.the-variants.{Passed}
 use Rattle.sheet.specs.Bytes.{sheetBytes, Accepted}
 use Rattle.sheet.specs.Reader.{found, Strings, reading}
 use Rattle.sheet.proofs.AcceptLaws.{passing}
 use Rattle.sheet.proofs.RoundTrip.{Roomy, right-read, read-right}
-use Rattle.writer.specs.Writer.{checks, sizes, both, writing}
-use Rattle.writer.proofs.CheckLaws.{checked, checks-pass, sizes-fit, sizes-passed}
-
-both-passed : (c e : Check) → both c e ≡ Passed → (c ≡ Passed) × (e ≡ Passed)
-both-passed (Refused r) e q = absurd (let z : _≡_ {A = ℕ} 0 1 = cc in omega arith)
-both-passed Passed e q = (refl, q)
+use Rattle.writer.specs.Writer.{writing}
+use Rattle.writer.proofs.CheckLaws.{checks-pass, sizes-fit, writing-checked, writing-fits}
 
 -- what was written is accepted, for an alphabet of k
 pub written-accepted : (B K M N k : ℕ) (A P T : List ℕ) (room : ℕ) → writing B K M N k A P T room ≡ Passed → Accepted B K M N A P T × (length A ≡ k)
-unfolding writing
 written-accepted B K M N k A P T room q =
-    let b = both-passed (checks K M N k A P T) (sizes B room (length (sheetBytes A P T))) q in
-    let c = checked K M N k A P T (b .0) in
-    (record { alphabet = c .alphabet; passed = c .passed; fits = sizes-passed B room (length (sheetBytes A P T)) (b .1) .0 }, c .size)
+    let c = writing-checked B K M N k A P T room q in
+    (record { alphabet = c .alphabet; passed = c .passed; fits = writing-fits B K M N k A P T room q }, c .size)
 
 -- reading what was written gives the same strings, where there is room
 pub wrote-read : (B K M N : ℕ) → K < 100000 → M < 100000 → N < 100000 → (k : ℕ) (A P T : List ℕ) (room : ℕ) (d : Strings)

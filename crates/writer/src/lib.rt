@@ -1,43 +1,32 @@
 // The writer of a search sheet: the checks, the length, then the bytes.
-pub mod bytes;
+mod bytes;
+pub mod c;
+mod twice;
 
 use crate::bytes::put_sheet;
 use crate::bytes::sheet_len;
-use inputs::checks::Text;
 use inputs::checks::checked;
 use inputs::refusal::Check;
-use inputs::refusal::Refusal;
+use inputs::refusal::Written;
+use inputs::refusal::refused;
 use letters::letter::Letter;
+use letters::limits::is_outside;
+use letters::strings::Pattern;
+use letters::strings::Text;
 use notation::alphabet::Bytes;
 use notation::alphabet::read_bytes;
-use pattern::Pattern;
 use sheet::Sheet;
 ghost use mathlib.Core.Path.{_≡_};
 ghost use Rattle.writer.specs.Writer.{checks, sizes, WriteInto};
-
-// What the writer answers: how many bytes it wrote, or the refusal.
-pub enum Written {
-    Wrote(usize),
-    Refused(Refusal),
-}
-
-fn refused(number: u32, place: usize) -> Check
-    ensures { λ r. ⌜ r ≡ Check.Refused (record { number = number; place = place }) ⌝ }
-{
-    Check::Refused(Refusal { number, place })
-}
 
 // Check 1, then 12, then those of a search.
 fn check(k: u32, alphabet: &[u8], pattern: &[u32], text: &[u32]) -> Check
     ensures { λ r. do ⌜ r ≡ checks (← ⟦Letter::MAX_K⟧ .entry) (← ⟦Pattern::MAX_M⟧ .entry) (← ⟦Text::MAX_N⟧ .entry) k (now (alphabet .entry)) (now (pattern .entry)) (now (text .entry)) ⌝ }
 {
-    if k == 0 {
-        return refused(1, 0);
-    }
-    if Letter::MAX_K < k {
-        return refused(1, 0);
-    }
     let size = k as usize;
+    if is_outside(size, 1, Letter::MAX_K as usize) {
+        return refused(1, 0);
+    }
     match read_bytes(alphabet, 0, size) {
         Bytes::Wrong(place) => refused(12, place),
         Bytes::After(_) => {

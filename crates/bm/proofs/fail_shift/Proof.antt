@@ -7,27 +7,6 @@ use Rattle.bm.specs.Bm.{failShift}
 use Rattle.bm.proofs.fail_shift.Statement.{statement}
 use Rattle.bm.proofs.fail_shift.Tie as tie
 
-add-after-r : tie.Need-add-after-r
-add-after-r c = search needs
-
-mul-after-r : tie.Need-mul-after-r
-mul-after-r c = search needs
-
-shared-slice-read-after-r : tie.Need-shared-slice-read-after-r
-shared-slice-read-after-r c = search needs
-
-after-r-requires : tie.Need-after-r-requires
-after-r-requires c κs = search needs
-
-add-less : tie.Need-add-less
-add-less c = search needs
-
-less-requires : tie.Need-less-requires
-less-requires c κs = search needs
-
-larger-requires : tie.Need-larger-requires
-larger-requires c κs = search needs
-
 returns : tie.Need-returns
 unfolding failShift
 returns c P t =
@@ -40,11 +19,11 @@ pub fail-shift-spec : {M : Type 1} → statement M
 fail-shift-spec =
     tie.close
     (tie.spec
-    add-after-r
-    mul-after-r
-    shared-slice-read-after-r
-    after-r-requires
-    add-less
-    less-requires
-    larger-requires
+    (λ c. search needs)
+    (λ c. search needs)
+    (λ c. search needs)
+    (λ c κs. search needs)
+    (λ c. search needs)
+    (λ c κs. search needs)
+    (λ c κs. search needs)
     returns)

@@ -8,7 +8,7 @@ use borrow.Author.Tests.{not-true, not-false}
 use lib.ListN.{length}
 use Rattle.letters.proofs.Truth.{and-true-l, and-true-r}
 use Rattle.shifts.specs.Shift.{trials}
-use Rattle.shifts.specs.Singles.{plain}
+use Rattle.hits.specs.Singles.{allSingle}
 use Rattle.pattern.proofs.ShiftTable.{end-shift}
 use Rattle.bm.specs.Bm.{firstShift}
 use Rattle.bm.proofs.StepLaws.{tests-sure, tests-tried}
@@ -17,10 +17,7 @@ use Rattle.bm.proofs.first_shift.Tie as tie
 
 -- the letters that meet begin where `left` ends
 from-left : (s : tie.Start) → let m = length (s .args .p .now) in m - (m - s .args .left) ≡ s .args .left
-from-left s = let l = s .pre .4 in omega arith
-
-try-shifts-requires : tie.Need-try-shifts-requires
-try-shifts-requires c κs = search needs
+from-left s = let l = s .pre .2 .top in omega arith
 
 returns : tie.Need-returns
 unfolding firstShift
@@ -33,32 +30,8 @@ returns c =
       rw z (c .try-shifts .ensures .0),
       c .try-shifts .ensures .1
           ∙ ap (λ (x : ℕ). trials P T (a .i) x (length P) 1 (length P - 1)) (sym z)
-          ∙ sym (tests-tried P T (a .i) (length P - a .left) (rw z (sym (s .pre .6) ∙ not-true (a .sure) (c .before .if1 .taken)))),
+          ∙ sym (tests-tried P T (a .i) (length P - a .left) (rw z (sym (s .pre .2 .single) ∙ not-true (a .sure) (c .before .if1 .taken)))),
     )
-
-sub-g : tie.Need-sub-g
-sub-g c = search needs
-
-add-end : tie.Need-add-end
-add-end c = search needs
-
-add-end-2 : tie.Need-add-end-2
-add-end-2 c = search needs
-
-sub-end : tie.Need-sub-end
-sub-end c = search needs
-
-mul-wide : tie.Need-mul-wide
-mul-wide c = search needs
-
-element-copy-out-wide : tie.Need-element-copy-out-wide
-element-copy-out-wide c = search needs
-
-wide-requires : tie.Need-wide-requires
-wide-requires c κs = search needs
-
-smaller-requires : tie.Need-smaller-requires
-smaller-requires c κs = search needs
 
 returns-2 : tie.Need-returns-2
 unfolding firstShift
@@ -70,13 +43,13 @@ returns-2 c =
     let P = a .p .now in
     let T = a .t .now in
     let g = length P - a .left in
-    let y : (plain P 0 (length P) && plain T (a .i + (length P - g)) g) ≡ true = rw (from-left s) (sym (s .pre .6) ∙ not-false (a .sure) (k .if1 .left)) in (
+    let y : (allSingle P 0 (length P) && allSingle T (a .i + (length P - g)) g) ≡ true = rw (from-left s) (sym (s .pre .2 .single) ∙ not-false (a .sure) (k .if1 .left)) in (
       c .smaller .ensures
-          ∙ ap (λ (x : ℕ). min x (length T + 1 - (length P + a .i))) (w .wide .ensures)
+          ∙ ap (λ (x : ℕ). min x (length T + 1 - (length P + a .i))) (w .index .ensures)
           ∙ sym
-          (end-shift P T (a .by .now) (a .i) g (s .pre .3) (s .pre .2) (s .pre .5)
-          (and-true-l (plain P 0 (length P)) _ y)
-          (and-true-r (plain P 0 (length P)) _ y)),
+          (end-shift P T (a .by .now) (a .i) g (s .pre .1) (s .pre .2 .inside) (s .pre .2 .rest)
+          (and-true-l (allSingle P 0 (length P)) _ y)
+          (and-true-r (allSingle P 0 (length P)) _ y)),
       sym (tests-sure P T (a .i) g y),
     )
 
@@ -84,14 +57,14 @@ pub first-shift-spec : {M : Type 1} → statement M
 first-shift-spec =
     tie.close
     (tie.spec
-    try-shifts-requires
+    (λ c κs. search needs)
     returns
-    sub-g
-    add-end
-    add-end-2
-    sub-end
-    mul-wide
-    element-copy-out-wide
-    wide-requires
-    smaller-requires
+    (λ c. search needs)
+    (λ c. search needs)
+    (λ c. search needs)
+    (λ c. search needs)
+    (λ c. search needs)
+    (λ c. search needs)
+    (λ c κs. search needs)
+    (λ c κs. search needs)
     returns-2)

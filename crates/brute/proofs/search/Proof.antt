@@ -9,29 +9,16 @@ use Rattle.brute.proofs.BruteLaws.{brute-scan}
 use Rattle.brute.proofs.search.Statement.{statement}
 use Rattle.brute.proofs.search.Tie as tie
 
-checked-requires : tie.Need-checked-requires
-checked-requires c κs = search needs
-
-enum-known-r : tie.Need-enum-known-r
-enum-known-r c = search needs
-
-enum-told : tie.Need-enum-told
-enum-told c = search needs
-
 run-requires : tie.Need-run-requires
 run-requires c κs =
     let k = c .before .before .before in
-    let s = sized 32 64 65536 _ _ _ (sym (k .checked .ensures) ∙ c .before .enum-told .given .1) in
-    (s .short, s .small)
+    sized _ _ _ _ _ _ (sym (k .checked .ensures) ∙ c .before .enum-told .given .1)
 
 returns : tie.Need-returns
 returns c =
     let k = c .before .before .before in
     let a = k .before .before .before .before .args in
-    (search-refused bruteRun 32 64 65536 (a .k) (a .p .now) (a .t .now) (a .list .now) _ (sym (k .checked .ensures) ∙ c .before .r .given .1), omega arith)
-
-same-length : tie.Need-same-length
-same-length c = search needs
+    (search-refused bruteRun _ _ _ (a .k) (a .p .now) (a .t .now) (a .list .now) _ (sym (k .checked .ensures) ∙ c .before .r .given .1), omega arith)
 
 returns-2 : tie.Need-returns-2
 returns-2 c =
@@ -39,11 +26,11 @@ returns-2 c =
     let k = r .before .before .before .before in
     let a = k .before .before .before .before .args in
     let e = r .run .ensures in (
-      search-found bruteRun 32 64 65536 (a .k) (a .p .now) (a .t .now) (a .list .now) _ _ (sym (k .checked .ensures) ∙ r .before .before .enum-told .given .1) (e .0) (e .1),
+      search-found bruteRun _ _ _ (a .k) (a .p .now) (a .t .now) (a .list .now) _ _ (sym (k .checked .ensures) ∙ r .before .before .enum-told .given .1) (e .0) (e .1),
       rw (e .0) (brute-scan (a .p .now) (a .t .now)),
     )
 
 pub search-spec : {M : Type 1} → statement M
 search-spec =
     tie.close
-    (tie.spec checked-requires enum-known-r enum-told run-requires returns same-length returns-2)
+    (tie.spec (λ c κs. search needs) (λ c. search needs) (λ c. search needs) run-requires returns (λ c. search needs) returns-2)

@@ -1,53 +1,19 @@
 -- `brute::step` meets its contract: how far the scan went says whether it is a hit and how many tests it took. Assumes nothing.
-use Prim.Native.Nat.{ℕ, _+_, _-_}
-use mathlib.Core.Path.{_≡_, sym, ap, _∙_}
 use native.Mathlib.Omega.{arith}
 use borrow.Author.Needs.{needs}
-use lib.ListN.{length}
-use Rattle.hits.specs.Scans.{reach}
-use Rattle.hits.proofs.ScanLaws.{scan-tests, tests-le}
+use Rattle.hits.proofs.ScanLaws.{whole-scan}
 use Rattle.brute.specs.Brute.{bruteTurn}
 use Rattle.brute.proofs.step.Statement.{statement}
 use Rattle.brute.proofs.step.Tie as tie
 
-reach-to-requires : tie.Need-reach-to-requires
-reach-to-requires c κs = search needs
-
-add-t7 : tie.Need-add-t7
-add-t7 c = search needs
-
-count-requires : tie.Need-count-requires
-count-requires c κs = search needs
-
--- how far the scan went
-reached : (k : tie.After-reach-to) →
-    let a = k .before .before .before .args in
-    k .reach-to .result ≡ reach (a .p .now) (a .t .now) (a .i) 0 (length (a .p .now))
-reached k =
-    let a = k .before .before .before .args in
-    let z : length (a .p .now) - 0 ≡ length (a .p .now) = omega arith in
-    k .reach-to .ensures ∙ ap (reach (a .p .now) (a .t .now) (a .i) 0) z
-
--- the tests of the scan, as the code adds them up
-scanned : (c : tie.After-count) →
-    let k = c .before in
-    let a = k .before .before .before .args in
-    k .reach-to .result + c .count .result ≡ bruteTurn (a .p .now) (a .t .now) (a .i) .scan
-unfolding bruteTurn
-scanned c =
-    let k = c .before in
-    let a = k .before .before .before .args in
-    ap (λ (x : ℕ). k .reach-to .result + x) (c .count .ensures) ∙ sym (scan-tests (a .p .now) (a .t .now) (a .i) _ (reached k))
-
 add-t11 : tie.Need-add-t11
-unfolding bruteTurn
-add-t11 c =
-    let a = c .before .before .before .before .args in
-    omega (arith, scanned c, tests-le (a .p .now) (a .t .now) (a .i) 0 (length (a .p .now)))
+add-t11 c = omega (arith, whole-scan _ _ _ _ _ (c .before .reach-to .ensures) (c .count .ensures))
 
 returns : tie.Need-returns
 unfolding bruteTurn
-returns c = rw (scanned c, reached (c .before))
+returns c =
+    let w = whole-scan _ _ _ _ _ (c .before .reach-to .ensures) (c .count .ensures) in
+    rw (w .1, w .0)
 
 pub step-spec : {M : Type 1} → statement M
-step-spec = tie.close (tie.spec reach-to-requires add-t7 count-requires add-t11 returns)
+step-spec = tie.close (tie.spec (λ c κs. search needs) (λ c. search needs) (λ c κs. search needs) add-t11 returns)

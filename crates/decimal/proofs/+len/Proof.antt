@@ -1,5 +1,5 @@
 -- `decimal::len` meets its contract. Assumes nothing.
-use Prim.Native.Nat.{_+_, _-_, _/_, ℕ, _<_}
+use Prim.Native.Nat.{_+_, _/_, ℕ, _<_}
 use mathlib.Core.Path.{sym, ap}
 use native.Mathlib.Omega.{arith}
 use lib.ListN.{length}

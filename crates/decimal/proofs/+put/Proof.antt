@@ -1,5 +1,5 @@
 -- `decimal::put` meets its contract. Assumes nothing.
-use Prim.Native.Nat.{_+_, _-_, _/_, _%_, ℕ, _<_}
+use Prim.Native.Nat.{_+_, _/_, _%_, ℕ, _<_}
 use mathlib.Core.Path.{sym, ap, _∙_}
 use mathlib.Core.List.{[], _∷_}
 use native.Mathlib.Omega.{arith}
@@ -8,7 +8,7 @@ use lib.ListN.{length, set, length-set}
 use lib.Seq.{sets}
 use Rattle.decimal.specs.Decimal.{decimal}
 use Rattle.decimal.proofs.DecimalLaws.{decimal-one, decimal-more, decimal-length}
-use Rattle.decimal.proofs.StoreLaws.{sets-on}
+use Rattle.lent.proofs.StoreLaws.{sets-on}
 use borrow.Fn.Kinds.{In}
 use borrow.Fn.PlainCycle.{Measures, is, falls, and}
 use Rattle.decimal.proofs.put.Reads as put
@@ -117,13 +117,13 @@ put-slice-write-out-2 : (t : ℕ) → put-lts.Need-slice-write-out-2 (
   put.Post,
 ) (put-at t) put.Post
 put-slice-write-out-2 t c =
-    let u = c .before .before .before .before .before in
+    let p = c .before .before .before in
+    let u = p .before .before in
     let st = u .before .before in
     let n = st .args .n in
     let f = st .fits .n .fits in
     let more = decimal-more n (u .if1 .left) f in
     let len = decimal-length n (u .if1 .left) f in
-    let p = c .before .before .before in
     omega (arith, p .put .ensures .0, p .put .kept, st .pre .1)
 
 put-add-result-2 : (t : ℕ) → put-lts.Need-add-result-2 (
@@ -133,13 +133,13 @@ put-add-result-2 : (t : ℕ) → put-lts.Need-add-result-2 (
   put.Post,
 ) (put-at t) put.Post
 put-add-result-2 t c =
-    let u = c .before .before .before .before .before in
+    let p = c .before .before .before in
+    let u = p .before .before in
     let st = u .before .before in
     let n = st .args .n in
     let f = st .fits .n .fits in
     let more = decimal-more n (u .if1 .left) f in
     let len = decimal-length n (u .if1 .left) f in
-    let p = c .before .before .before in
     omega (arith, p .put .ensures .0, st .pre .1, st .good)
 
 put-same-length-2 : (t : ℕ) → put-lts.Need-same-length-2 (
@@ -159,13 +159,13 @@ put-returns-2 : (t : ℕ) → put-lts.Need-returns-2 (
   put.Post,
 ) (put-at t) put.Post
 put-returns-2 t c =
-    let u = c .before .before .before .before .before in
+    let p = c .before .before .before in
+    let u = p .before .before in
     let st = u .before .before in
     let n = st .args .n in
     let f = st .fits .n .fits in
     let more = decimal-more n (u .if1 .left) f in
     let len = decimal-length n (u .if1 .left) f in
-    let p = c .before .before .before in
     let o = st .args .out .now in
     let at = st .args .at in (
       omega (arith, p .put .ensures .0),

@@ -5,16 +5,10 @@ use Rattle.pattern.proofs.LastTable.{r-greatest}
 use Rattle.pattern.proofs.after_r.Statement.{statement}
 use Rattle.pattern.proofs.after_r.Tie as tie
 
-greatest-requires : tie.Need-greatest-requires
-greatest-requires c κs = search needs
-
-wide-requires : tie.Need-wide-requires
-wide-requires c κs = search needs
-
 returns : tie.Need-returns
 returns c =
     let a = c .before .before .args in
-    λ P t. c .wide .ensures ∙ c .before .greatest .ensures ∙ r-greatest 32 P (a .lasts .now) (a .c) (c .before .before .fits .c .fits) t
+    λ P t. c .index .ensures ∙ c .before .greatest .ensures ∙ r-greatest P _ (a .lasts .now) (a .c) (c .before .before .fits .c .fits) t
 
 pub after-r-spec : {M : Type 1} → statement M
-after-r-spec = tie.close (tie.spec greatest-requires wide-requires returns)
+after-r-spec = tie.close (tie.spec (λ c κs. search needs) (λ c κs. search needs) returns)

@@ -1,54 +1,33 @@
 -- `lasts_of` meets its contract: the table is right for the letters passed. Assumes nothing.
 use borrow.Author.Needs.{needs}
 use native.Mathlib.Omega.{arith}
-use mathlib.Core.Path.{_≡_, refl}
-use Prim.Native.Nat.{_-_, _≤_}
-use lib.ListN.{length, replicate, getD-replicate}
-use Rattle.pattern.proofs.LastTable.{LastsTo, lasts-start, lasts-on, lasts-end}
+use Prim.Native.Nat.{_+_, _-_, _≤_, _^_}
+use lib.ListN.{length}
+use Rattle.pattern.specs.Last.{lastIn, afterR}
+use Rattle.pattern.specs.Tables.{lastTable}
+use Rattle.pattern.proofs.GrowLaws.{Grown, grown-start, grown-on, grown-end}
+use Rattle.pattern.proofs.LastLaws.{last-start}
+use Rattle.pattern.proofs.LastTable.{last-grows}
 use Rattle.pattern.proofs.lasts_of.Statement.{statement}
 use Rattle.pattern.proofs.lasts_of.Tie as tie
 
 abbrev Inv-loop : tie.InvT-loop
-Inv-loop p tab₀ j₀ tab j = (j ≤ length p) × (length tab ≡ 32) × LastsTo 32 p j tab
+Inv-loop p tab₀ j₀ tab j = (j ≤ length p) × Grown (length tab₀) (λ b h. lastIn p (2 ^ b) h) j tab
 
 abbrev μ-loop : tie.MeasureT-loop
 μ-loop p tab₀ j₀ tab j = length p - j
 
 loop-holds : tie.Need-loop-holds Inv-loop μ-loop
-loop-holds c = (omega arith, refl, lasts-start 32 (c .before .args .p .now) (replicate 32 0) (λ b l. getD-replicate 32 b 0 0 l))
-
-mul-store : tie.Need-mul-store Inv-loop μ-loop
-mul-store c = search needs
-
-shared-slice-read-store : tie.Need-shared-slice-read-store Inv-loop μ-loop
-shared-slice-read-store c = search needs
-
-add-store : tie.Need-add-store Inv-loop μ-loop
-add-store c = search needs
-
-cast-store : tie.Need-cast-store Inv-loop μ-loop
-cast-store c = search needs
-
-store-requires : tie.Need-store-requires Inv-loop μ-loop
-store-requires c κs = search needs
-
-add-j : tie.Need-add-j Inv-loop μ-loop
-add-j c = search needs
-
-loop-less : tie.Need-loop-less Inv-loop μ-loop
-loop-less c = search needs
+loop-holds c = (omega arith, grown-start _ _ (λ b. last-start _ (2 ^ b)))
 
 loop-again : tie.Need-loop-again Inv-loop μ-loop
 loop-again c =
     let l = c .before .before .before .before in
-    let p = l .before .before .args .p .now in
-    let e = c .store .ensures in
-    (omega arith, e .long, lasts-on 32 p (l .loop .j) (l .loop .tab) _ (l .loop .inv .2) e)
+    (omega arith, grown-on (l .loop .inv .1) (λ _. l .loop .j + 1) _ _ (last-grows _ (l .loop .j)) (c .store .ensures))
 
 returns : tie.Need-returns Inv-loop μ-loop
-returns c =
-    let l = c .before in
-    lasts-end 32 (l .before .before .args .p .now) (l .loop .j) (l .loop .tab) (omega arith) (l .loop .inv .2)
+unfolding lastTable afterR
+returns c = grown-end (c .before .loop .inv .1) _ (omega arith)
 
 pub lasts-of-spec : {M : Type 1} → statement M
 lasts-of-spec =
@@ -57,12 +36,12 @@ lasts-of-spec =
     Inv-loop
     μ-loop
     loop-holds
-    mul-store
-    shared-slice-read-store
-    add-store
-    cast-store
-    store-requires
-    add-j
-    loop-less
+    (λ c. search needs)
+    (λ c. search needs)
+    (λ c. search needs)
+    (λ c. search needs)
+    (λ c κs. search needs)
+    (λ c. search needs)
+    (λ c. search needs)
     loop-again
     returns)

@@ -1,90 +1,79 @@
--- `report::of_sheet` meets its contract: what the reader answers picks the case. Assumes nothing.
-use mathlib.Core.Path.{_≡_, sym}
+-- `report::of_sheet` meets its contract: what the reader answered picks the case. That no report is longer than its bound is computed. Assumes nothing.
+use Prim.Native.Nat.{_≤_}
+use mathlib.Core.Path.{refl, sym}
+use native.Mathlib.Omega.{arith}
 use borrow.Author.Needs.{needs}
+use borrow.Author.Tests.{leb-true}
 use lib.ListN.{length}
 use lib.Seq.{length-take-le}
-use Rattle.report.proofs.PromiseLaws.{Got, got-read, got-refused, searchable, sheet-refused, sheet-read}
+use Rattle.decimal.specs.Decimal.{decimalTo, decimal, ended}
+use Rattle.engines.proofs.CountLaws.{mostOf}
+use Rattle.reportbytes.specs.Bytes.{counts, engineLine, engineLines}
+use Rattle.report.proofs.BoundLaws.{sizes, most}
+use Rattle.report.proofs.PromiseLaws.{got-read, got-refused, searchable, sheet-refused, sheet-read}
 use Rattle.report.proofs.of_sheet.Statement.{statement}
 use Rattle.report.proofs.of_sheet.Tie as tie
 
--- the lists that the reader is lent
-lent : (c : tie.After-read) → (length (c .read .last .1 .0) ≡ 32) × (length (c .read .last .1 .1 .0) ≡ 64) × (length (c .read .last .1 .1 .1 .0) ≡ 8192)
-lent c = (search needs, search needs, search needs)
+abbrev start : tie.After-read → tie.Start
+start c = c .before .before .before .before .before .before
 
--- what was read
-got : (c : tie.After-sizes) →
-    let x = c .before .before .before .before .before in
-    Got (x .before .before .before .before .before .before .args .sheet .now) (c .sizes .given .0 .0) (x .read .last .1 .1 .0) (x .read .last .1 .1 .1 .0)
-got c =
-    let x = c .before .before .before .before .before in
-    let l = lent x in
-    got-read (x .before .before .before .before .before .before .args .sheet .now) _ _ _ (x .read .ensures) (l .0) (l .1) (l .2) _ (c .sizes .given .1)
+abbrev at-read : tie.After-sizes → tie.After-read
+at-read c = c .before .before .before .before .before
 
-slice-aggregate-read : tie.Need-slice-aggregate-read
-slice-aggregate-read c = search needs
-
-slice-aggregate-read-2 : tie.Need-slice-aggregate-read-2
-slice-aggregate-read-2 c = search needs
-
-slice-aggregate-read-3 : tie.Need-slice-aggregate-read-3
-slice-aggregate-read-3 c = search needs
-
-read-requires : tie.Need-read-requires
-read-requires c κs = search needs
-
-enum-known-r : tie.Need-enum-known-r
-enum-known-r c = search needs
-
-enum-known-sizes : tie.Need-enum-known-sizes
-enum-known-sizes c = search needs
+-- what was read stands in front of the lists
+fits : (c : tie.After-sizes) →
+    let x = at-read c in
+    (c .sizes .given .0 .0 .m ≤ length (x .read .last .1 .1 .0)) × (c .sizes .given .0 .0 .n ≤ length (x .read .last .1 .1 .1 .0))
+fits c =
+    let g = got-read _ _ _ _ _ _ _ _ (at-read c .read .ensures) (search needs) (search needs) (search needs) _ (c .sizes .given .1) in
+    (g .pattern-fits, g .text-fits)
 
 array-share-prefix-pattern : tie.Need-array-share-prefix-pattern
-array-share-prefix-pattern c = got (c .before) .pattern-fits
+array-share-prefix-pattern c = fits (c .before) .0
 
 slice-aggregate-of-strings : tie.Need-slice-aggregate-of-strings
-slice-aggregate-of-strings c = sym (length-take-le _ _ (got (c .before .before) .pattern-fits))
+slice-aggregate-of-strings c = sym (length-take-le _ _ (fits (c .before .before) .0))
 
 array-share-prefix-text : tie.Need-array-share-prefix-text
-array-share-prefix-text c = got (c .before .before) .text-fits
+array-share-prefix-text c = fits (c .before .before) .1
 
 slice-aggregate-of-strings-2 : tie.Need-slice-aggregate-of-strings-2
-slice-aggregate-of-strings-2 c = sym (length-take-le _ _ (got (c .before .before .before) .text-fits))
+slice-aggregate-of-strings-2 c = sym (length-take-le _ _ (fits (c .before .before .before) .1))
 
 of-strings-requires : tie.Need-of-strings-requires
-of-strings-requires c κs = searchable _ _ _ _ (got (c .before .before .before .before))
+of-strings-requires c κs =
+    let z = c .before .before .before .before in
+    searchable (got-read _ _ _ _ _ _ _ _ (at-read z .read .ensures) (search needs) (search needs) (search needs) _ (z .sizes .given .1))
 
 returns : tie.Need-returns
 returns c =
     let x = c .before .before .before .before .before .before in
-    let a = x .before .before .before .before .before .before .args in
-    let l = lent x in
-    sheet-refused (a .sheet .now) (a .out .now) _ (got-refused (a .sheet .now) _ _ _ (x .read .ensures) (l .0) (l .1) (l .2) _ (c .before .r .given .1))
-
-same-length : tie.Need-same-length
-same-length c = search needs
+    sheet-refused _ _ _ _ _ (start x .args .sheet .now) (start x .args .out .now) _ (got-refused _ _ _ _ _ _ _ _ (x .read .ensures) (search needs) (search needs) (search needs) _ (c .before .r .given .1))
 
 returns-2 : tie.Need-returns-2
+unfolding most sizes mostOf engineLines engineLine counts ended decimal decimalTo
 returns-2 c =
     let o = c .before .before in
-    let z = c .before .before .before .before .before .before .before in
-    let a = z .before .before .before .before .before .before .before .before .before .before .before .args in
-    sheet-read (a .sheet .now) (a .out .now) _ _ _ _ _ (got z) (o .of-strings .ensures)
+    let z = o .before .before .before .before .before in
+    let g = got-read _ _ _ _ _ _ _ _ (at-read z .read .ensures) (search needs) (search needs) (search needs) _ (z .sizes .given .1) in
+    let a = start (at-read z) .args in
+    sheet-read _ _ _ _ _ (a .sheet .now) (a .out .now) _ _ g (o .of-strings .ensures) (omega arith) (leb-true _ _ refl)
 
 pub of-sheet-spec : {M : Type 1} → statement M
 of-sheet-spec =
     tie.close
     (tie.spec
-    slice-aggregate-read
-    slice-aggregate-read-2
-    slice-aggregate-read-3
-    read-requires
-    enum-known-r
-    enum-known-sizes
+    (λ c. search needs)
+    (λ c. search needs)
+    (λ c. search needs)
+    (λ c κs. search needs)
+    (λ c. search needs)
+    (λ c. search needs)
     array-share-prefix-pattern
     slice-aggregate-of-strings
     array-share-prefix-text
     slice-aggregate-of-strings-2
     of-strings-requires
     returns
-    same-length
+    (λ c. search needs)
     returns-2)

@@ -1,7 +1,6 @@
 -- `shiftand::step` meets its contract: its word step is the rule's. Assumes nothing.
 use borrow.Author.Needs.{needs}
 use mathlib.Core.Path.{_≡_, _∙_}
-use Prim.Native.Nat.{_-_}
 use native.Mathlib.Omega.{arith}
 use lib.ListN.{getD}
 use Rattle.word.specs.Word.{stepped}
@@ -10,24 +9,6 @@ use Rattle.shiftand.specs.ShiftAnd.{shiftandTurn}
 use Rattle.shiftand.proofs.step.Statement.{statement}
 use Rattle.shiftand.proofs.step.Tie as tie
 
-mul-advance : tie.Need-mul-advance
-mul-advance c = search needs
-
-shared-slice-read-advance : tie.Need-shared-slice-read-advance
-shared-slice-read-advance c = search needs
-
-advance-requires : tie.Need-advance-requires
-advance-requires c κs = search needs
-
-sub-is-set : tie.Need-sub-is-set
-sub-is-set c = search needs
-
-is-set-requires : tie.Need-is-set-requires
-is-set-requires c κs = search needs
-
-add-t12 : tie.Need-add-t12
-add-t12 c = search needs
-
 -- the state after the step
 advanced : (k : tie.After-advance) →
     let a = k .before .before .before .before .args in
@@ -35,7 +16,7 @@ advanced : (k : tie.After-advance) →
 advanced k =
     let s = k .before .before .before .before in
     let a = s .args in
-    k .advance .ensures ∙ rows-step 32 (a .p .now) (a .rows .now) (getD (a .t .now) (a .read) 0) (a .word) (s .pre .3) (omega (arith, k .before .shared-slice-known3 .given (a .read)))
+    k .advance .ensures ∙ rows-step _ (a .p .now) (a .rows .now) (getD (a .t .now) (a .read) 0) (a .word) (s .pre .2) (omega (arith, k .before .shared-slice-known3 .given (a .read)))
 
 returns : tie.Need-returns
 unfolding shiftandTurn
@@ -45,10 +26,10 @@ pub step-spec : {M : Type 1} → statement M
 step-spec =
     tie.close
     (tie.spec
-    mul-advance
-    shared-slice-read-advance
-    advance-requires
-    sub-is-set
-    is-set-requires
-    add-t12
+    (λ c. search needs)
+    (λ c. search needs)
+    (λ c κs. search needs)
+    (λ c. search needs)
+    (λ c κs. search needs)
+    (λ c. search needs)
     returns)

@@ -5,14 +5,8 @@ use Rattle.word.specs.Word.{moved}
 use Rattle.word.proofs.advance.Statement.{statement}
 use Rattle.word.proofs.advance.Tie as tie
 
-union-requires : tie.Need-union-requires
-union-requires c κs = search needs
-
-word-step-requires : tie.Need-word-step-requires
-word-step-requires c κs = search needs
-
 returns : tie.Need-returns
 returns c = c .word-step .ensures ∙ ap (moved (c .before .before .args .d)) (c .before .union .ensures)
 
 pub advance-spec : {M : Type 1} → statement M
-advance-spec = tie.close (tie.spec union-requires word-step-requires returns)
+advance-spec = tie.close (tie.spec (λ c κs. search needs) (λ c κs. search needs) returns)

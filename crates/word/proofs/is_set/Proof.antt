@@ -8,12 +8,9 @@ use Rattle.word.specs.Word.{isSet}
 use Rattle.word.proofs.is_set.Statement.{statement}
 use Rattle.word.proofs.is_set.Tie as tie
 
-shr-result : tie.Need-shr-result
-shr-result c = search needs
-
 returns : tie.Need-returns
 unfolding isSet
 returns c = ap (λ (d : ℕ). eqb d 1) (sym (digit-pow (c .args .j) (c .args .d)))
 
 pub is-set-spec : {M : Type 1} → statement M
-is-set-spec = tie.close (tie.spec shr-result returns)
+is-set-spec = tie.close (tie.spec (λ c. search needs) returns)

@@ -11,15 +11,6 @@ use Rattle.word.proofs.note_end.Tie as tie
 returns : tie.Need-returns
 returns c = rw (not-true (c .before .before .args .hit) (c .if1 .taken)) (omega arith, refl)
 
-start-of-requires : tie.Need-start-of-requires
-start-of-requires c κs = search needs
-
-note-requires : tie.Need-note-requires
-note-requires c κs = search needs
-
-same-length : tie.Need-same-length
-same-length c = search needs
-
 returns-2 : tie.Need-returns-2
 returns-2 c =
     let n = c .before .before in
@@ -30,4 +21,4 @@ returns-2 c =
     (n .note .ensures .0, n .note .ensures .1 ∙ ap (λ (x : ℕ). set (a .list .now) (a .total) x) (s .start-of .ensures))
 
 pub note-end-spec : {M : Type 1} → statement M
-note-end-spec = tie.close (tie.spec returns start-of-requires note-requires same-length returns-2)
+note-end-spec = tie.close (tie.spec returns (λ c κs. search needs) (λ c κs. search needs) (λ c. search needs) returns-2)

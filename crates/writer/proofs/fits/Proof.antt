@@ -1,25 +1,22 @@
 -- `writer::fits` meets its contract. Assumes nothing.
 use borrow.Author.Needs.{needs}
-use mathlib.Core.Path.{sym, _∙_}
-use Prim.Native.Nat.{_-_}
-use Rattle.writer.proofs.CheckLaws.{sizes-long, sizes-roomless, sizes-fit}
+use borrow.Author.Tests.{lt-ltb, le-ltb}
+use Rattle.inputs.specs.Refusals.{refuse}
+use Rattle.writer.specs.Writer.{sizes}
 use Rattle.writer.proofs.fits.Statement.{statement}
 use Rattle.writer.proofs.fits.Tie as tie
 
-refused-requires : tie.Need-refused-requires
-refused-requires c κs = search needs
-
 returns : tie.Need-returns
-returns c = c .refused .ensures ∙ sym (sizes-long 8192 _ _ (c .before .if1 .taken))
-
-refused-requires-2 : tie.Need-refused-requires-2
-refused-requires-2 c κs = search needs
+unfolding sizes refuse
+returns c = rw (lt-ltb _ _ (c .before .if1 .taken)) (c .refused .ensures)
 
 returns-2 : tie.Need-returns-2
-returns-2 c = c .refused2 .ensures ∙ sym (sizes-roomless 8192 _ _ (c .before .before .if1 .left) (c .before .if2 .taken))
+unfolding sizes refuse
+returns-2 c = rw (le-ltb _ _ (c .before .before .if1 .left), lt-ltb _ _ (c .before .if2 .taken)) (c .refused2 .ensures)
 
 returns-3 : tie.Need-returns-3
-returns-3 c = sym (sizes-fit 8192 _ _ (c .before .if1 .left) (c .if2 .left))
+unfolding sizes refuse
+returns-3 c = rw (le-ltb _ _ (c .before .if1 .left), le-ltb _ _ (c .if2 .left))
 
 pub fits-spec : {M : Type 1} → statement M
-fits-spec = tie.close (tie.spec refused-requires returns refused-requires-2 returns-2 returns-3)
+fits-spec = tie.close (tie.spec (λ c κs. search needs) returns (λ c κs. search needs) returns-2 returns-3)

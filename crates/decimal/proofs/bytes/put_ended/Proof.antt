@@ -3,7 +3,7 @@ use mathlib.Core.Path.{refl}
 use mathlib.Core.List.{[], _∷_}
 use native.Mathlib.Omega.{arith}
 use borrow.Author.Needs.{needs}
-use Rattle.decimal.proofs.StoreLaws.{sets-on}
+use Rattle.lent.proofs.StoreLaws.{sets-on}
 use Rattle.decimal.specs.Decimal.{decimal, ended}
 use Rattle.decimal.proofs.DecimalLaws.{ended-length}
 use Rattle.decimal.proofs.bytes.put_ended.Statement.{statement}
@@ -26,9 +26,6 @@ add-result c =
     let st = p .before .before .before in
     omega (arith, st .pre, ended-length (st .args .n) (st .args .after), p .put .ensures .0, st .good)
 
-same-length : tie.Need-same-length
-same-length c = search needs
-
 returns : tie.Need-returns
 unfolding ended
 returns c =
@@ -39,4 +36,4 @@ returns c =
     )
 
 pub put-ended-spec : {M : Type 1} → statement M
-put-ended-spec = tie.close (tie.spec put-requires slice-write-out add-result same-length returns)
+put-ended-spec = tie.close (tie.spec put-requires slice-write-out add-result (λ c. search needs) returns)

@@ -1,53 +1,45 @@
 -- `decimal::count::value_of` meets its contract. Assumes nothing.
-use Prim.Native.Nat.{ℕ, _+_, _-_, _*_, _^_, _≤_, _<_}
-use mathlib.Core.Path.{_≡_, refl, sym, ap, _∙_}
+use Prim.Native.Nat.{_+_, _-_, _≤_}
+use mathlib.Core.Path.{_≡_, refl}
 use native.Mathlib.Omega.{arith}
-use lib.ListN.{length, drop, getD}
-use native.Mathlib.Nat.{pow-suc, pow-le-pow-right}
-use native.Mathlib.Numerals.{add-one}
-use lib.Dec.{lit<}
-use Rattle.decimal.specs.Decimal.{frontDigits, value}
-use Rattle.decimal.proofs.FrontLaws.{Digit, digit-left, value-on, value-end}
+use Rattle.decimal.proofs.FrontLaws.{Digit, Valued, valued-small, valued-digit, valued-on, valued-all}
 use Rattle.decimal.proofs.count.value_of.Statement.{statement}
 use Rattle.decimal.proofs.count.value_of.Tie as tie
 
 abbrev Inv-loop : tie.InvT-loop
-Inv-loop sheet from n v₀ i₀ v i =
-    (i ≤ n) × (from + i ≤ length sheet) × (length (frontDigits (drop (from + i) sheet)) ≡ n - i) × (v < 10 ^ i)
-    × (value 0 (frontDigits (drop from sheet)) ≡ value v (frontDigits (drop (from + i) sheet)))
+Inv-loop sheet from n v₀ i₀ v i = Valued sheet from n v i
 
 abbrev μ-loop : tie.MeasureT-loop
 μ-loop sheet from n v₀ i₀ v i = n - i
 
 loop-holds : tie.Need-loop-holds Inv-loop μ-loop
 loop-holds c =
-    let a = c .args in
-    let z : a .from + 0 ≡ a .from = omega arith in
-    (omega arith, omega arith, rw z (omega arith), omega arith, rw z refl)
+    let z : c .args .from + 0 ≡ c .args .from = omega arith in
+    record { few = omega arith; within = omega arith; left = rw z (omega arith); small = omega arith; ahead = rw z refl }
 
-small : (c : tie.At-loop Inv-loop μ-loop) → c .loop .v ≤ 100000
-small c = let h : c .loop .i ≤ 5 = omega arith in let p = pow-le-pow-right {n = 10} (lit< tt) h in omega (arith, c .loop .inv .3)
+small : (c : tie.In-loop Inv-loop μ-loop) → c .before .loop .v ≤ 100000
+small c = valued-small (c .before .loop .inv) (omega arith)
 
-here : (c : tie.In-loop Inv-loop μ-loop) → Digit (c .before .before .args .sheet .now) (c .before .before .args .from + c .before .loop .i)
-here c = digit-left _ _ (c .before .loop .inv .1) (omega (arith, c .before .loop .inv .2))
+digit : (c : tie.In-loop Inv-loop μ-loop) → let l = c .before in Digit (l .before .args .sheet .now) (l .before .args .from + l .loop .i)
+digit c = valued-digit (c .before .loop .inv) (c .loop-test .taken)
 
 mul-v : tie.Need-mul-v Inv-loop μ-loop
-mul-v c = omega (arith, small (c .before))
+mul-v c = omega (arith, small c)
 
 add-v : tie.Need-add-v Inv-loop μ-loop
-add-v c = omega arith
+add-v c = omega (arith, digit c .within)
 
 shared-slice-read-v : tie.Need-shared-slice-read-v Inv-loop μ-loop
-shared-slice-read-v c = here (c .before) .within
+shared-slice-read-v c = digit (c .before) .within
 
 sub-v : tie.Need-sub-v Inv-loop μ-loop
-sub-v c = here (c .before) .low
+sub-v c = digit (c .before) .low
 
 cast-v : tie.Need-cast-v Inv-loop μ-loop
-cast-v c = omega (arith, here (c .before) .high)
+cast-v c = omega (arith, digit (c .before) .high)
 
 add-v-2 : tie.Need-add-v-2 Inv-loop μ-loop
-add-v-2 c = omega (arith, here (c .before) .high, small (c .before .before))
+add-v-2 c = omega (arith, digit (c .before) .high, small (c .before))
 
 add-i : tie.Need-add-i Inv-loop μ-loop
 add-i c = omega arith
@@ -56,25 +48,10 @@ loop-less : tie.Need-loop-less Inv-loop μ-loop
 loop-less c = omega arith
 
 loop-again : tie.Need-loop-again Inv-loop μ-loop
-loop-again c =
-    let l = c .before .before in
-    let a = l .before .args in
-    let s = a .sheet .now in
-    let d = here (c .before) in
-    let i = l .loop .i in
-    let q : a .from + i + 1 ≡ a .from + (i + 1) = omega arith in (
-      omega arith,
-      omega (arith, d .within),
-      rw (← q) (omega (arith, ap length (d .rest), l .loop .inv .2)),
-      rw (add-one i) (omega (arith, pow-suc 10 i, l .loop .inv .3, d .high)),
-      l .loop .inv .4 ∙ ap (value (l .loop .v)) (d .rest) ∙ value-on (l .loop .v) _ _ ∙ ap (λ (x : ℕ). value (l .loop .v * 10 + (getD s (a .from + i) 0 - 48)) (frontDigits (drop x s))) q,
-    )
+loop-again c = valued-on (c .before .before .loop .inv) (c .before .loop-test .taken)
 
 returns : tie.Need-returns Inv-loop μ-loop
-returns c =
-    let l = c .before in
-    let a = l .before .args in
-    sym (l .loop .inv .4 ∙ value-end (l .loop .v) _ (omega (arith, l .loop .inv .2)))
+returns c = valued-all (c .before .loop .inv) (c .loop-test .left)
 
 pub value-of-spec : {M : Type 1} → statement M
 value-of-spec =

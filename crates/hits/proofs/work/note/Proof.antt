@@ -12,18 +12,6 @@ use Rattle.hits.proofs.work.note.Tie as tie
 returns : tie.Need-returns
 returns c = rw (not-true (c .before .args .hit) (c .if1 .taken)) (omega arith, refl)
 
-cast-list : tie.Need-cast-list
-cast-list c = search needs
-
-mul-list : tie.Need-mul-list
-mul-list c = search needs
-
-slice-write-list : tie.Need-slice-write-list
-slice-write-list c = search needs
-
-add-result : tie.Need-add-result
-add-result c = search needs
-
 stored : (c : tie.Joined2) → c .if2 .list ≡ set (c .before .before .args .list .now) (c .before .before .args .total) (c .before .before .args .at)
 stored c = ⊎-elim (λ w. w .1) (λ w. w .1 ∙ sym (set-out _ _ _ (w .0 .left))) (c .if2 .came)
 
@@ -34,4 +22,4 @@ returns-2 : tie.Need-returns-2
 returns-2 c = rw (not-false (c .before .before .args .hit) (c .before .if1 .left)) (refl, stored c)
 
 pub note-spec : {M : Type 1} → statement M
-note-spec = tie.close (tie.spec returns cast-list mul-list slice-write-list add-result same-length returns-2)
+note-spec = tie.close (tie.spec returns (λ c. search needs) (λ c. search needs) (λ c. search needs) (λ c. search needs) same-length returns-2)

@@ -5,15 +5,9 @@ use mathlib.Core.Path.{_≡_, subst}
 use mathlib.Core.Logic.{⊎-elim}
 use Prim.Native.Nat.{ℕ, _-_, _*_, _≤_, _<_, _^_, _%_}
 use lib.ListN.{length}
-use native.Mathlib.Nat.{one-mul, mod-eq-of-lt, lt-of-le-of-lt}
-use lib.Dec.{lit<}
-use lib.Pow.{pow-mono}
-use Rattle.inputs.proofs.BadLaws.{Joined, joined-zero, joined-full, joined-empty, any-empty, any-large}
+use Rattle.inputs.proofs.BadLaws.{Joined, joined-zero, joined-full, joined-empty, any-empty, any-large, one-shifted}
 use Rattle.inputs.proofs.checks.any_bad.Statement.{statement}
 use Rattle.inputs.proofs.checks.any_bad.Tie as tie
-
-one-shifted : (k : ℕ) → k ≤ 32 → 1 * 2 ^ k % 2 ^ 64 ≡ 2 ^ k
-one-shifted k h = rw (one-mul (2 ^ k)) (mod-eq-of-lt (lt-of-le-of-lt (pow-mono h) (lit< tt)))
 
 abbrev Inv-loop : tie.InvT-loop
 Inv-loop k s all₀ empty₀ i₀ all empty i = (i ≤ length s) × Joined k s all empty i
@@ -23,18 +17,6 @@ abbrev μ-loop : tie.MeasureT-loop
 
 loop-holds : tie.Need-loop-holds Inv-loop μ-loop
 loop-holds c = (omega arith, joined-zero _ _)
-
-mul-c : tie.Need-mul-c Inv-loop μ-loop
-mul-c c = search needs
-
-shared-slice-read-c : tie.Need-shared-slice-read-c Inv-loop μ-loop
-shared-slice-read-c c = search needs
-
-add-i : tie.Need-add-i Inv-loop μ-loop
-add-i c = search needs
-
-loop-less : tie.Need-loop-less Inv-loop μ-loop
-loop-less c = search needs
 
 loop-again : tie.Need-loop-again Inv-loop μ-loop
 loop-again c =
@@ -56,19 +38,13 @@ returns c =
     let e : l .loop .i ≡ length (a .s .now) = omega arith in
     any-empty (a .k) (a .s .now) (l .loop .all) (l .loop .empty) (subst (λ (x : ℕ). Joined (a .k) (a .s .now) (l .loop .all) (l .loop .empty) x) e (l .loop .inv .1)) (c .if2 .taken)
 
-shl-result : tie.Need-shl-result Inv-loop μ-loop
-shl-result c = search needs
-
-wide-requires : tie.Need-wide-requires Inv-loop μ-loop
-wide-requires c κs = search needs
-
 returns-2 : tie.Need-returns-2 Inv-loop μ-loop
 returns-2 c =
     let b = c .before in
     let l = b .before .before in
     let a = l .before .before .args in
     let e : l .loop .i ≡ length (a .s .now) = omega arith in
-    rw (one-shifted (a .k) (l .before .before .pre), c .wide .ensures)
+    rw (one-shifted (a .k) (omega arith), c .wide .ensures)
     (any-large (a .k) (a .s .now) (l .loop .all) (l .loop .empty) (subst (λ (x : ℕ). Joined (a .k) (a .s .now) (l .loop .all) (l .loop .empty) x) e (l .loop .inv .1)) (b .if2 .left))
 
 pub any-bad-spec : {M : Type 1} → statement M
@@ -78,12 +54,12 @@ any-bad-spec =
     Inv-loop
     μ-loop
     loop-holds
-    mul-c
-    shared-slice-read-c
-    add-i
-    loop-less
+    (λ c. search needs)
+    (λ c. search needs)
+    (λ c. search needs)
+    (λ c. search needs)
     loop-again
     returns
-    shl-result
-    wide-requires
+    (λ c. search needs)
+    (λ c κs. search needs)
     returns-2)

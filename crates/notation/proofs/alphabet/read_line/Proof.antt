@@ -22,16 +22,7 @@ within : (c : tie.After-end) →
     (c .end .given .0 .0 ≡ a .from + a .k) × (c .end .given .0 .0 ≤ length (a .sheet .now))
 within c =
     let st = c .before .before .before .before in
-    bytes-within (st .args .sheet .now) (st .args .from) (st .args .k) _ (st .pre .0) (read c)
-
-read-bytes-requires : tie.Need-read-bytes-requires
-read-bytes-requires c κs = search needs
-
-enum-known-place : tie.Need-enum-known-place
-enum-known-place c = search needs
-
-enum-known-end : tie.Need-enum-known-end
-enum-known-end c = search needs
+    bytes-within (st .args .sheet .now) (st .args .from) (st .args .k) _ (st .pre) (read c)
 
 returns : tie.Need-returns
 returns c =
@@ -67,9 +58,9 @@ pub read-line-spec : {M : Type 1} → statement M
 read-line-spec =
     tie.close
     (tie.spec
-    read-bytes-requires
-    enum-known-place
-    enum-known-end
+    (λ c κs. search needs)
+    (λ c. search needs)
+    (λ c. search needs)
     returns
     shared-slice-read-if2
     add-t12

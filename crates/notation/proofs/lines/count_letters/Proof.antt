@@ -1,93 +1,59 @@
 -- `notation::lines::count_letters` meets its contract. Assumes nothing.
-use Prim.Native.Nat.{ℕ, _+_, _-_, _≤_}
-use mathlib.Core.Path.{_≡_, refl, sym, ap, _∙_}
-use mathlib.Core.List.{List, [], _∷_, _++_}
+use Prim.Native.Nat.{ℕ, _-_}
+use mathlib.Core.Path.{_≡_, sym, ap, _∙_}
+use mathlib.Core.List.{List}
 use native.Mathlib.Omega.{arith}
 use borrow.Author.Needs.{needs}
-use lib.ListN.{length, length-append}
-use Rattle.notation.specs.Answers.{countedOf}
+use lib.ListN.{length, drop}
+use Rattle.notation.specs.Answers.{oneAt, countedOf}
 use Rattle.notation.specs.declared.lines.Line.the-variants.{Counted}
-use Rattle.notation.proofs.WalkLaws.{Walk, walk-start, walk-on, walk-end, walk-wrong, walk-in}
+use Rattle.notation.specs.declared.lines.One.{One}
+use Rattle.notation.proofs.WalkLaws.{Walked, walk-start, walk-less, walk-on, walk-end, walk-wrong}
 use Rattle.notation.proofs.lines.count_letters.Statement.{statement}
 use Rattle.notation.proofs.lines.count_letters.Tie as tie
 
 abbrev Inv-loop : tie.InvT-loop
-Inv-loop alphabet table sheet from at₀ n₀ at n = (at ≤ length sheet) × (n + from ≤ at) × ((past : List ℕ) × Walk alphabet sheet from at past × (n ≡ length past))
+Inv-loop alphabet table sheet from at₀ n₀ at n = (past : List ℕ) × Walked alphabet sheet from at n past
 
 abbrev μ-loop : tie.MeasureT-loop
 μ-loop alphabet table sheet from at₀ n₀ at n = length sheet - at
 
+abbrev start : tie.At-loop Inv-loop μ-loop → tie.Start Inv-loop μ-loop
+start l = l .before .before .before
+
+-- what stood at the place
+stood : (r : tie.After-read-one Inv-loop μ-loop) {o : One} → r .read-one .result ≡ o → let a = start (r .before) .args in oneAt (a .alphabet .now) (r .before .loop .at) (drop (r .before .loop .at) (a .sheet .now)) ≡ o
+stood r e = sym (r .read-one .ensures) ∙ e
+
 loop-holds : tie.Need-loop-holds Inv-loop μ-loop
-loop-holds c = (omega arith, omega arith, ([], walk-start _ _ _, refl))
+loop-holds c = (_, walk-start _ _ _ (c .before .before .pre .within))
 
 read-one-requires : tie.Need-read-one-requires Inv-loop μ-loop
-read-one-requires c κs = (omega arith, c .before .before .before .pre .1)
-
-enum-known-next : tie.Need-enum-known-next Inv-loop μ-loop
-enum-known-next c = search needs
+read-one-requires c κs = let g = start c .pre in record { some = g .some; few = g .few; table = g .table; within = c .loop .inv .1 .within }
 
 add-n : tie.Need-add-n Inv-loop μ-loop
-add-n c = omega arith
+add-n c = let l = c .before .before .before .before in let s = start l in omega (arith, l .loop .inv .1 .paid, l .loop .inv .1 .within)
 
 loop-less : tie.Need-loop-less Inv-loop μ-loop
 loop-less c =
     let r = c .before .before .before in
-    let l = r .before in
-    let a = l .before .before .before .args in
-    let A = a .alphabet .now in
-    let s = a .sheet .now in
-    let e = sym (r .read-one .ensures) ∙ c .before .next .given .1 in
-    let at = l .loop .at in
-    let w = l .loop .inv .2 in
-    let i = walk-in A s at (l .loop .inv .0) _ e in
-    omega arith
+    omega (arith, walk-less (r .before .loop .inv .1) (stood r (c .before .next .given .1)))
 
 loop-again : tie.Need-loop-again Inv-loop μ-loop
 loop-again c =
     let r = c .before .before .before in
-    let l = r .before in
-    let a = l .before .before .before .args in
-    let A = a .alphabet .now in
-    let s = a .sheet .now in
-    let e = sym (r .read-one .ensures) ∙ c .before .next .given .1 in
-    let at = l .loop .at in
-    let w = l .loop .inv .2 in
-    let x = c .before .next .given .0 .0 in
-    let i = walk-in A s at (l .loop .inv .0) _ e in (
-      i .1,
-      omega arith,
-      (w .0 ++ (x ∷ []), walk-on A s (a .from) at (l .loop .inv .0) (w .0) (w .1) _ _ e, omega (arith, w .2, length-append (w .0) (x ∷ []))),
-    )
-
-enum-known-next-2 : tie.Need-enum-known-next-2 Inv-loop μ-loop
-enum-known-next-2 c = search needs
-
-enum-known-place : tie.Need-enum-known-place Inv-loop μ-loop
-enum-known-place c = search needs
+    (_, walk-on (r .before .loop .inv .1) (stood r (c .before .next .given .1)))
 
 returns : tie.Need-returns Inv-loop μ-loop
 returns c =
     let r = c .before .before .before in
-    let l = r .before in
-    let a = l .before .before .before .args in
-    let A = a .alphabet .now in
-    let s = a .sheet .now in
-    let e = sym (r .read-one .ensures) ∙ c .before .next2 .given .1 in
-    let at = l .loop .at in
-    let w = l .loop .inv .2 in
-    sym (ap countedOf (walk-end A s (a .from) at (l .loop .inv .0) (w .0) (w .1) _ e) ∙ ap (λ (n : ℕ). Counted n (c .before .next2 .given .0 .0)) (sym (w .2)))
+    let w = r .before .loop .inv .1 in
+    ap (λ (n : ℕ). Counted n (c .before .next2 .given .0 .0)) (w .many) ∙ sym (ap countedOf (walk-end w (stood r (c .before .next2 .given .1))))
 
 returns-2 : tie.Need-returns-2 Inv-loop μ-loop
 returns-2 c =
     let r = c .before .before .before in
-    let l = r .before in
-    let a = l .before .before .before .args in
-    let A = a .alphabet .now in
-    let s = a .sheet .now in
-    let e = sym (r .read-one .ensures) ∙ c .before .place .given .1 in
-    let at = l .loop .at in
-    let w = l .loop .inv .2 in
-    sym (ap countedOf (walk-wrong A s (a .from) at (l .loop .inv .0) (w .0) (w .1) _ e))
+    sym (ap countedOf (walk-wrong (r .before .loop .inv .1) (stood r (c .before .place .given .1))))
 
 pub count-letters-spec : {M : Type 1} → statement M
 count-letters-spec =
@@ -97,11 +63,11 @@ count-letters-spec =
     μ-loop
     loop-holds
     read-one-requires
-    enum-known-next
+    (λ c. search needs)
     add-n
     loop-less
     loop-again
-    enum-known-next-2
-    enum-known-place
+    (λ c. search needs)
+    (λ c. search needs)
     returns
     returns-2)

@@ -18,9 +18,6 @@ returns-2 c =
     let a = c .before .before .args in
     rw (lt-ltb (a .j) (a .k) (c .before .if1 .left), lt-leb (a .above) (a .j) (c .if2 .taken))
 
-add-if3 : tie.Need-add-if3
-add-if3 c = search needs
-
 returns-3 : tie.Need-returns-3
 unfolding mayFollow
 returns-3 c =
@@ -33,9 +30,6 @@ returns-4 c =
     let a = c .before .before .before .before .args in
     rw (lt-ltb _ _ (c .before .before .before .if1 .left), le-leb (a .above) (a .j) (c .before .before .if2 .left), lt-ltb (suc (a .count)) (a .k) (omega arith), le-leb 1 (a .count) (c .if4 .taken))
 
-add-result : tie.Need-add-result
-add-result c = search needs
-
 returns-5 : tie.Need-returns-5
 unfolding mayFollow
 returns-5 c =
@@ -44,4 +38,4 @@ returns-5 c =
 
 pub may-follow-spec : {M : Type 1} → statement M
 may-follow-spec =
-    tie.close (tie.spec returns returns-2 add-if3 returns-3 returns-4 add-result returns-5)
+    tie.close (tie.spec returns returns-2 (λ c. search needs) returns-3 returns-4 (λ c. search needs) returns-5)

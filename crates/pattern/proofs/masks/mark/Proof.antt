@@ -1,46 +1,29 @@
--- `masks::mark` meets its contract: the loop keeps `Visiting`. Assumes nothing.
+-- `masks::mark` meets its contract: the loop walks the members. Assumes nothing.
 use borrow.Author.Needs.{needs}
 use native.Mathlib.Omega.{arith}
 use lib.Bits.{bitOr}
-use Rattle.letters.proofs.LowestLaws.{low, rest-less}
-use Rattle.pattern.proofs.VisitLaws.{Visiting, visit-start, visit-on, visit-end}
+use lib.ListN.{getD, set}
+use Rattle.letters.proofs.LowestLaws.{rest-less}
+use Rattle.letters.proofs.MemberLaws.{Walking, walk-start, walk-low, walk-on, walk-end}
 use Rattle.pattern.proofs.masks.mark.Statement.{statement}
 use Rattle.pattern.proofs.masks.mark.Tie as tie
 
 abbrev Inv-loop : tie.InvT-loop
-Inv-loop rows₀ c place left₀ rows left = Visiting 32 (λ x. bitOr x place) c rows₀ left rows
+Inv-loop rows₀ c place left₀ rows left = Walking (λ x b. set x b (bitOr (getD x b 0) place)) c rows₀ left rows
 
 abbrev μ-loop : tie.MeasureT-loop
 μ-loop rows₀ c place left₀ rows left = left
 
 loop-holds : tie.Need-loop-holds Inv-loop μ-loop
-loop-holds c = visit-start 32 _ (c .args .c) (c .args .rows .now) (c .fits .c .fits) (c .pre)
-
-lowest-requires : tie.Need-lowest-requires Inv-loop μ-loop
-lowest-requires c κs = search needs
-
-cast-b : tie.Need-cast-b Inv-loop μ-loop
-cast-b c = search needs
-
-mul-rows : tie.Need-mul-rows Inv-loop μ-loop
-mul-rows c = search needs
+loop-holds c = walk-start _ _ _
 
 element-copy-out-rows : tie.Need-element-copy-out-rows Inv-loop μ-loop
 element-copy-out-rows c =
     let l = c .before .before in
-    omega (arith, c .lowest .ensures, low 32 (l .loop .left) (omega arith) (l .loop .inv .within) .within)
-
-mul-rows-2 : tie.Need-mul-rows-2 Inv-loop μ-loop
-mul-rows-2 c = search needs
+    walk-low (l .loop .inv) _ _ (l .before .fits .c .fits) (c .lowest .ensures) (omega arith)
 
 element-write-rows : tie.Need-element-write-rows Inv-loop μ-loop
-element-write-rows c =
-    let k = c .before in
-    let l = k .before .before in
-    omega (arith, k .lowest .ensures, low 32 (l .loop .left) (omega arith) (l .loop .inv .within) .within)
-
-rest-requires : tie.Need-rest-requires Inv-loop μ-loop
-rest-requires c κs = search needs
+element-write-rows c = element-copy-out-rows (c .before)
 
 loop-less : tie.Need-loop-less Inv-loop μ-loop
 loop-less c = omega (arith, c .rest .ensures, rest-less (c .before .before .before .before .loop .left) (omega arith))
@@ -49,10 +32,12 @@ loop-again : tie.Need-loop-again Inv-loop μ-loop
 loop-again c =
     let k = c .before .before in
     let l = k .before .before in
-    rw (c .rest .ensures, k .lowest .ensures) (visit-on 32 _ _ _ (l .loop .left) (l .loop .rows) (l .loop .inv) (omega arith))
+    walk-on (l .loop .inv) _ _ (l .before .fits .c .fits) (k .lowest .ensures) (omega arith) _ (c .rest .ensures)
 
 returns : tie.Need-returns Inv-loop μ-loop
-returns c = visit-end 32 _ _ _ (c .before .loop .left) (c .before .loop .rows) (omega arith) (c .before .loop .inv)
+returns c =
+    let l = c .before in
+    walk-end (l .loop .inv) (omega arith) _ (l .before .fits .c .fits)
 
 pub mark-spec : {M : Type 1} → statement M
 mark-spec =
@@ -61,13 +46,13 @@ mark-spec =
     Inv-loop
     μ-loop
     loop-holds
-    lowest-requires
-    cast-b
-    mul-rows
+    (λ c κs. search needs)
+    (λ c. search needs)
+    (λ c. search needs)
     element-copy-out-rows
-    mul-rows-2
+    (λ c. search needs)
     element-write-rows
-    rest-requires
+    (λ c κs. search needs)
     loop-less
     loop-again
     returns)

@@ -4,19 +4,10 @@ use native.Mathlib.Omega.{arith}
 use mathlib.Core.Path.{sym, _∙_}
 use Prim.Native.Nat.{_-_}
 use lib.ListN.{length}
-use Rattle.shifts.proofs.BackLaws.{back-le}
+use Rattle.hits.proofs.BackLaws.{back-le}
 use Rattle.pattern.proofs.ShiftTable.{far-all, far-some}
 use Rattle.pattern.proofs.tables.end_far.Statement.{statement}
 use Rattle.pattern.proofs.tables.end_far.Tie as tie
-
-sub-rest : tie.Need-sub-rest
-sub-rest c = search needs
-
-scan-back-requires : tie.Need-scan-back-requires
-scan-back-requires c κs = search needs
-
-sub-met : tie.Need-sub-met
-sub-met c = search needs
 
 returns : tie.Need-returns
 returns c =
@@ -32,4 +23,4 @@ returns-2 c =
     )
 
 pub end-far-spec : {M : Type 1} → statement M
-end-far-spec = tie.close (tie.spec sub-rest scan-back-requires sub-met returns returns-2)
+end-far-spec = tie.close (tie.spec (λ c. search needs) (λ c κs. search needs) (λ c. search needs) returns returns-2)

@@ -2,49 +2,34 @@
 use borrow.Author.Needs.{needs}
 use native.Mathlib.Omega.{arith}
 use mathlib.Core.Path.{refl}
-use Prim.Native.Nat.{_+_, _-_, _≤_}
-use Rattle.pattern.proofs.TableLaws.{Built, built-on, enough}
-use Rattle.shifts.proofs.LeastLaws.{least-le}
+use Prim.Native.Nat.{_+_, _-_}
+use lib.ListN.{length}
+use Rattle.pattern.proofs.TableLaws.{Built, built-start, next-top, built-on, built-end}
 use Rattle.pattern.proofs.tables.least_shifts.Statement.{statement}
 use Rattle.pattern.proofs.tables.least_shifts.Tie as tie
 
 abbrev Inv-loop : tie.InvT-loop
-Inv-loop far m out₀ s₀ h₀ out s h = (h ≤ m + 1) × Built far m out s h
+Inv-loop far m out₀ s₀ h₀ out s h = Built far (length out₀) m out s h
 
 abbrev μ-loop : tie.MeasureT-loop
 μ-loop far m out₀ s₀ h₀ out s h = m + 1 - h
 
 loop-holds : tie.Need-loop-holds Inv-loop μ-loop
-loop-holds c = (omega arith, record { long = refl; low = omega arith; top = omega arith; short = λ j a b. absurd (omega arith); right = λ k a. absurd (omega arith) })
+loop-holds c = built-start _ _ _ (omega arith)
 
 next-far-requires : tie.Need-next-far-requires Inv-loop μ-loop
-next-far-requires c κs = let w = c .before .loop .inv .1 .top in omega arith
+next-far-requires c κs = omega arith
 
 cast-out : tie.Need-cast-out Inv-loop μ-loop
 cast-out c =
     let l = c .before .before in
-    let w = l .loop .inv .1 .top in
-    omega (arith, c .next-far .ensures, least-le (enough (l .before .args .far .now) (l .loop .h)) (l .loop .s) (l .before .args .m - l .loop .s))
-
-mul-out : tie.Need-mul-out Inv-loop μ-loop
-mul-out c = search needs
-
-array-write-out : tie.Need-array-write-out Inv-loop μ-loop
-array-write-out c = search needs
-
-add-h : tie.Need-add-h Inv-loop μ-loop
-add-h c = search needs
-
-loop-less : tie.Need-loop-less Inv-loop μ-loop
-loop-less c = search needs
+    omega (arith, next-top (l .loop .inv) (omega arith) _ (c .next-far .ensures))
 
 loop-again : tie.Need-loop-again Inv-loop μ-loop
-loop-again c =
-    let l = c .before .before in
-    (omega arith, built-on (l .before .args .far .now) (l .before .args .m) (l .loop .out) (l .loop .s) (l .loop .h) (c .next-far .result) (l .loop .inv .1) (omega arith) (omega arith) (c .next-far .ensures))
+loop-again c = built-on (c .before .before .loop .inv) (omega arith) _ (c .next-far .ensures) (omega arith)
 
 returns : tie.Need-returns Inv-loop μ-loop
-returns c = λ h k. c .before .loop .inv .1 .right h (omega arith)
+returns c = built-end (c .before .loop .inv) (omega arith) _ refl
 
 pub least-shifts-spec : {M : Type 1} → statement M
 least-shifts-spec =
@@ -55,9 +40,9 @@ least-shifts-spec =
     loop-holds
     next-far-requires
     cast-out
-    mul-out
-    array-write-out
-    add-h
-    loop-less
+    (λ c. search needs)
+    (λ c. search needs)
+    (λ c. search needs)
+    (λ c. search needs)
     loop-again
     returns)

@@ -5,15 +5,9 @@ use Rattle.inputs.specs.Refusals.{refuse}
 use Rattle.products.proofs.checks.check_elements.Statement.{statement}
 use Rattle.products.proofs.checks.check_elements.Tie as tie
 
-refused-requires : tie.Need-refused-requires
-refused-requires c κs = search needs
-
 returns : tie.Need-returns
 unfolding refuse
 returns c = rw (lt-ltb _ _ (c .before .if1 .taken)) (c .refused .ensures)
-
-refused-requires-2 : tie.Need-refused-requires-2
-refused-requires-2 c κs = search needs
 
 returns-2 : tie.Need-returns-2
 unfolding refuse
@@ -25,4 +19,4 @@ returns-3 c = rw (le-ltb _ _ (c .before .if1 .left), le-ltb _ _ (c .if2 .left))
 
 pub check-elements-spec : {M : Type 1} → statement M
 check-elements-spec =
-    tie.close (tie.spec refused-requires returns refused-requires-2 returns-2 returns-3)
+    tie.close (tie.spec (λ c κs. search needs) returns (λ c κs. search needs) returns-2 returns-3)

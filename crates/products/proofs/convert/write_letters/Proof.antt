@@ -5,7 +5,7 @@ use native.Mathlib.Omega.{arith}
 use borrow.Author.Needs.{needs}
 use lib.ListN.{length}
 use Rattle.products.specs.Primes.{letterOf}
-use Rattle.products.proofs.WriteLaws.{written, written-none, written-next, written-all, length-written}
+use Rattle.lent.proofs.MapLaws.{written, written-none, written-next, written-all, length-written}
 use Rattle.products.proofs.convert.write_letters.Statement.{statement}
 use Rattle.products.proofs.convert.write_letters.Tie as tie
 
@@ -22,26 +22,8 @@ kept c = ap length (c .loop .inv .1) ∙ length-written letterOf (c .before .bef
 loop-holds : tie.Need-loop-holds Inv-loop μ-loop
 loop-holds c = let a = c .before .before .args in (omega arith, written-none letterOf (a .products .now) (a .letters .now))
 
-mul-letter-of : tie.Need-mul-letter-of Inv-loop μ-loop
-mul-letter-of c = search needs
-
-shared-slice-read-letter-of : tie.Need-shared-slice-read-letter-of Inv-loop μ-loop
-shared-slice-read-letter-of c = search needs
-
-letter-of-requires : tie.Need-letter-of-requires Inv-loop μ-loop
-letter-of-requires c κs = search needs
-
-mul-letters : tie.Need-mul-letters Inv-loop μ-loop
-mul-letters c = search needs
-
 slice-write-letters : tie.Need-slice-write-letters Inv-loop μ-loop
 slice-write-letters c = omega (arith, kept (c .before .before .before))
-
-add-j : tie.Need-add-j Inv-loop μ-loop
-add-j c = search needs
-
-loop-less : tie.Need-loop-less Inv-loop μ-loop
-loop-less c = search needs
 
 loop-again : tie.Need-loop-again Inv-loop μ-loop
 loop-again c =
@@ -66,13 +48,13 @@ write-letters-spec =
     Inv-loop
     μ-loop
     loop-holds
-    mul-letter-of
-    shared-slice-read-letter-of
-    letter-of-requires
-    mul-letters
+    (λ c. search needs)
+    (λ c. search needs)
+    (λ c κs. search needs)
+    (λ c. search needs)
     slice-write-letters
-    add-j
-    loop-less
+    (λ c. search needs)
+    (λ c. search needs)
     loop-again
     same-length
     returns)

@@ -5,7 +5,7 @@ use native.Mathlib.Omega.{arith}
 use borrow.Author.Needs.{needs}
 use lib.ListN.{length, getD}
 use Rattle.products.specs.Primes.{productOf}
-use Rattle.products.proofs.WriteLaws.{written, written-none, written-next, written-all, length-written}
+use Rattle.lent.proofs.MapLaws.{written, written-none, written-next, written-all, length-written}
 use Rattle.products.proofs.convert.write_products.Statement.{statement}
 use Rattle.products.proofs.convert.write_products.Tie as tie
 
@@ -19,17 +19,8 @@ abbrev μ-loop : tie.MeasureT-loop
 kept : (c : tie.At-loop Inv-loop μ-loop) → length (c .loop .products) ≡ length (c .before .before .before .before .args .products .now)
 kept c = ap length (c .loop .inv .1) ∙ length-written productOf (c .before .before .before .before .args .letters .now) (c .before .before .before .before .args .products .now) (c .loop .i)
 
-table-requires : tie.Need-table-requires Inv-loop μ-loop
-table-requires c κs = search needs
-
 loop-holds : tie.Need-loop-holds Inv-loop μ-loop
 loop-holds c = let a = c .before .before .before .args in (omega arith, written-none productOf (a .letters .now) (a .products .now))
-
-mul-c : tie.Need-mul-c Inv-loop μ-loop
-mul-c c = search needs
-
-shared-slice-read-c : tie.Need-shared-slice-read-c Inv-loop μ-loop
-shared-slice-read-c c = search needs
 
 cast-c : tie.Need-cast-c Inv-loop μ-loop
 cast-c c = omega (arith, c .shared-slice-known2 .given (c .before .before .loop .i))
@@ -40,17 +31,8 @@ mul-products c = let l = c .before .before in omega (arith, l .before .before .b
 array-read-products : tie.Need-array-read-products Inv-loop μ-loop
 array-read-products c = let l = c .before .before in l .before .before .before .before .pre .1 (l .loop .i) (omega arith)
 
-mul-products-2 : tie.Need-mul-products-2 Inv-loop μ-loop
-mul-products-2 c = search needs
-
 slice-write-products : tie.Need-slice-write-products Inv-loop μ-loop
 slice-write-products c = omega (arith, kept (c .before .before))
-
-add-i : tie.Need-add-i Inv-loop μ-loop
-add-i c = search needs
-
-loop-less : tie.Need-loop-less Inv-loop μ-loop
-loop-less c = search needs
 
 loop-again : tie.Need-loop-again Inv-loop μ-loop
 loop-again c =
@@ -76,17 +58,17 @@ write-products-spec =
     (tie.spec
     Inv-loop
     μ-loop
-    table-requires
+    (λ c κs. search needs)
     loop-holds
-    mul-c
-    shared-slice-read-c
+    (λ c. search needs)
+    (λ c. search needs)
     cast-c
     mul-products
     array-read-products
-    mul-products-2
+    (λ c. search needs)
     slice-write-products
-    add-i
-    loop-less
+    (λ c. search needs)
+    (λ c. search needs)
     loop-again
     same-length
     returns)

@@ -8,18 +8,6 @@ use Rattle.products.specs.declared.meeting.Meeting.the-variants.{Known}
 use Rattle.products.proofs.meeting.products_meet.Statement.{statement}
 use Rattle.products.proofs.meeting.products_meet.Tie as tie
 
-check-pair-requires : tie.Need-check-pair-requires
-check-pair-requires c κs = search needs
-
-enum-known-r : tie.Need-enum-known-r
-enum-known-r c = search needs
-
-enum-told : tie.Need-enum-told
-enum-told c = search needs
-
-gcd-requires : tie.Need-gcd-requires
-gcd-requires c κs = search needs
-
 returns : tie.Need-returns
 returns c =
     rw (sym (c .before .before .before .check-pair .ensures) ∙ c .before .r .given .1) (record { answers = refl; leaves = refl })
@@ -33,4 +21,4 @@ returns-2 c =
 
 pub products-meet-spec : {M : Type 1} → statement M
 products-meet-spec =
-    tie.close (tie.spec check-pair-requires enum-known-r enum-told gcd-requires returns returns-2)
+    tie.close (tie.spec (λ c κs. search needs) (λ c. search needs) (λ c. search needs) (λ c κs. search needs) returns returns-2)

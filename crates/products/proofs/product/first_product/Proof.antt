@@ -6,15 +6,9 @@ use Rattle.products.proofs.TableLaws.{tabulate, entry}
 use Rattle.products.proofs.product.first_product.Statement.{statement}
 use Rattle.products.proofs.product.first_product.Tie as tie
 
-mul-result : tie.Need-mul-result
-mul-result c = search needs
-
-array-read-result : tie.Need-array-read-result
-array-read-result c = search needs
-
 returns : tie.Need-returns
 unfolding tabulate firstProduct product primes
 returns c = entry firstProduct 10 (c .args .k) (omega arith)
 
 pub first-product-spec : {M : Type 1} → statement M
-first-product-spec = tie.close (tie.spec mul-result array-read-result returns)
+first-product-spec = tie.close (tie.spec (λ c. search needs) (λ c. search needs) returns)

@@ -5,17 +5,8 @@ use Rattle.report.specs.Values.{workIn}
 use Rattle.report.proofs.values.work_in.Statement.{statement}
 use Rattle.report.proofs.values.work_in.Tie as tie
 
-enum-known-a : tie.Need-enum-known-a
-enum-known-a c = search needs
-
-enum-told : tie.Need-enum-told
-enum-told c = search needs
-
-returns : tie.Need-returns
-returns c = search needs
-
 returns-2 : tie.Need-returns-2
 returns-2 c = sym (ap workIn (c .enum-told .given .1))
 
 pub work-in-spec : {M : Type 1} → statement M
-work-in-spec = tie.close (tie.spec enum-known-a enum-told returns returns-2)
+work-in-spec = tie.close (tie.spec (λ c. search needs) (λ c. search needs) (λ c. search needs) returns-2)

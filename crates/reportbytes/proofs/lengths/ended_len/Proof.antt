@@ -5,9 +5,6 @@ use Rattle.decimal.proofs.DecimalLaws.{ended-length, ended-fits}
 use Rattle.reportbytes.proofs.lengths.ended_len.Statement.{statement}
 use Rattle.reportbytes.proofs.lengths.ended_len.Tie as tie
 
-len-requires : tie.Need-len-requires
-len-requires c κs = search needs
-
 add-result : tie.Need-add-result
 add-result c =
     let n = c .before .args .n in
@@ -20,4 +17,4 @@ returns c =
     (omega (arith, c .len .ensures, ended-length n 10), omega (arith, c .len .ensures, ended-length n 32), omega (arith, c .len .ensures, ended-length n 10, f))
 
 pub ended-len-spec : {M : Type 1} → statement M
-ended-len-spec = tie.close (tie.spec len-requires add-result returns)
+ended-len-spec = tie.close (tie.spec (λ c κs. search needs) add-result returns)

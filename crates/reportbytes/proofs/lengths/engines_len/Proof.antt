@@ -1,74 +1,80 @@
 -- `reportbytes::lengths::engines_len` meets its contract. Assumes nothing.
-use mathlib.Core.List.{[]}
+use Prim.Native.Nat.{ℕ, _+_, _-_, _*_, _≤_}
+use mathlib.Core.Path.{_≡_, ap}
+use mathlib.Core.List.{List, [], map}
 use native.Mathlib.Omega.{arith}
 use borrow.Author.Needs.{needs}
-use Rattle.reportbytes.specs.Counted.{valuesIn}
-use Rattle.reportbytes.proofs.LineLaws.{engines-length}
+use lib.ListN.{length, getD, drop, length-append}
+use Rattle.hits.specs.declared.work.Work.{Work}
+use Rattle.hits.specs.Turns.{idle}
+use Rattle.hits.specs.Counts.{workOf}
+use Rattle.engines.specs.Engines.{theSix}
+use Rattle.engines.proofs.EngineLaws.{name-short}
+use Rattle.reportbytes.specs.Values.{runIn}
+use Rattle.reportbytes.specs.Bytes.{engineLine, engineLines}
+use Rattle.reportbytes.proofs.LineLaws.{engine-length, engines-on, engines-end}
 use Rattle.reportbytes.proofs.lengths.engines_len.Statement.{statement}
 use Rattle.reportbytes.proofs.lengths.engines_len.Tie as tie
 
-counts-len-requires : tie.Need-counts-len-requires
-counts-len-requires c κs = search needs
+-- the sum, with the lines of the engines from i on, is the whole
+record Summing (works : List Work) (sum i : ℕ) : Type 0 where
+  within : i ≤ length theSix
+  small : sum ≤ 72 * i
+  whole : sum + length (engineLines (drop i theSix) (drop i (map runIn works))) ≡ length (engineLines theSix (map runIn works))
 
-add-result : tie.Need-add-result
-add-result c = search needs
+abbrev Inv-loop : tie.InvT-loop
+Inv-loop works sum₀ i₀ sum i = Summing works sum i
 
-counts-len-requires-2 : tie.Need-counts-len-requires-2
-counts-len-requires-2 c κs = search needs
+abbrev μ-loop : tie.MeasureT-loop
+μ-loop works sum₀ i₀ sum i = length theSix - i
 
-add-result-2 : tie.Need-add-result-2
-add-result-2 c = search needs
+abbrev at-loop : tie.After-counts-len Inv-loop μ-loop → tie.At-loop Inv-loop μ-loop
+at-loop c = c .before .before .before .before .before
 
-counts-len-requires-3 : tie.Need-counts-len-requires-3
-counts-len-requires-3 c κs = search needs
+loop-holds : tie.Need-loop-holds Inv-loop μ-loop
+loop-holds c = record { within = omega arith; small = omega arith; whole = omega arith }
 
-add-result-3 : tie.Need-add-result-3
-add-result-3 c = search needs
+add-sum : tie.Need-add-sum Inv-loop μ-loop
+add-sum c = omega (arith, c .before .name-len .ensures, name-short (c .before .before .at .result), c .counts-len .ensures .1)
 
-counts-len-requires-4 : tie.Need-counts-len-requires-4
-counts-len-requires-4 c κs = search needs
+add-sum-2 : tie.Need-add-sum-2 Inv-loop μ-loop
+add-sum-2 c = omega (arith, c .before .name-len .ensures, name-short (c .before .before .at .result), c .counts-len .ensures .1, at-loop c .loop .inv .small, at-loop c .loop .inv .within)
 
-add-result-4 : tie.Need-add-result-4
-add-result-4 c = search needs
+loop-again : tie.Need-loop-again Inv-loop μ-loop
+loop-again c =
+    let l = at-loop c in
+    let works = l .before .args .t1 in
+    let i = l .loop .i in
+    let e = c .before .before .at .result in
+    let r = runIn (getD works i (workOf [] idle)) in
+    let q = engines-on works i e (workOf [] idle) (c .before .before .at .ensures) (omega arith) (search needs) in
+    record {
+      within = omega arith;
+      small = omega (arith, c .before .name-len .ensures, name-short e, c .counts-len .ensures .1, l .loop .inv .small);
+      whole = omega (arith, l .loop .inv .whole, c .before .name-len .ensures, c .counts-len .ensures .0, engine-length e r, ap length q, length-append (engineLine e r) (engineLines (drop (i + 1) theSix) (drop (i + 1) (map runIn works))));
+    }
 
-counts-len-requires-5 : tie.Need-counts-len-requires-5
-counts-len-requires-5 c κs = search needs
-
-add-result-5 : tie.Need-add-result-5
-add-result-5 c = search needs
-
-counts-len-requires-6 : tie.Need-counts-len-requires-6
-counts-len-requires-6 c κs = search needs
-
-add-result-6 : tie.Need-add-result-6
-add-result-6 c = search needs
-
-returns : tie.Need-returns
+returns : tie.Need-returns Inv-loop μ-loop
 returns c =
-    let x1 = c .before .before .before .before .before in
-    let six = x1 .before .args .six in
-    let e1 = x1 .counts-len .ensures in
-    let e2 = c .before .before .before .before .counts-len2 .ensures in
-    let e3 = c .before .before .before .counts-len3 .ensures in
-    let e4 = c .before .before .counts-len4 .ensures in
-    let e5 = c .before .counts-len5 .ensures in
-    let e6 = c .counts-len6 .ensures in
-    (omega (arith, engines-length (valuesIn six []), e1 .0, e2 .0, e3 .0, e4 .0, e5 .0, e6 .0), omega (arith, e1 .1, e2 .1, e3 .1, e4 .1, e5 .1, e6 .1))
+    let l = c .before in
+    let v = l .loop .inv in
+    (omega (arith, v .whole, ap length (engines-end (l .before .args .t1) (l .loop .i) (omega arith))), omega (arith, v .within, v .small))
 
 pub engines-len-spec : {M : Type 1} → statement M
 engines-len-spec =
     tie.close
     (tie.spec
-    counts-len-requires
-    add-result
-    counts-len-requires-2
-    add-result-2
-    counts-len-requires-3
-    add-result-3
-    counts-len-requires-4
-    add-result-4
-    counts-len-requires-5
-    add-result-5
-    counts-len-requires-6
-    add-result-6
+    Inv-loop
+    μ-loop
+    loop-holds
+    (λ c. search needs)
+    (λ c. search needs)
+    (λ c κs. search needs)
+    (λ c κs. search needs)
+    (λ c κs. search needs)
+    add-sum
+    add-sum-2
+    (λ c. search needs)
+    (λ c. search needs)
+    loop-again
     returns)

@@ -1,42 +1,37 @@
 -- `reportbytes::lines::put_engine` meets its contract: the name, then the counts. Assumes nothing.
 use borrow.Author.Needs.{needs}
-use Rattle.decimal.proofs.StoreLaws.{SoFar, so-none, so-front, so-next, so-back, so-last}
+use Rattle.lent.proofs.StoreLaws.{Storing, so-none, so-front, so-next, so-back, so-last}
+use Rattle.engines.specs.Engines.{nameOf}
 use Rattle.reportbytes.specs.Bytes.{counts, engineLine}
-use Rattle.reportbytes.specs.Counted.{runIn}
+use Rattle.reportbytes.specs.Values.{runIn}
 use Rattle.reportbytes.proofs.lines.put_engine.Statement.{statement}
 use Rattle.reportbytes.proofs.lines.put_engine.Tie as tie
 
--- the name is written
-one : (c : tie.After-put-bytes) →
-    let a = c .before .before .before .before .args in
-    SoFar (a .out .now) (a .at) (engineLine (a .name .now) (runIn (a .w))) (counts (runIn (a .w))) (c .put-bytes .last .0) (c .put-bytes .result)
-unfolding engineLine
-one c =
-    let a = c .before .before .before .before .args in
-    so-next (a .name .now) (counts (runIn (a .w))) (so-none (a .out .now) (a .at) (engineLine (a .name .now) (runIn (a .w)))) (c .put-bytes .ensures .1) (c .put-bytes .ensures .0)
+abbrev start : tie.After-put-name → tie.Start
+start c = c .before .before .before
 
-put-bytes-requires : tie.Need-put-bytes-requires
+-- the name is written
+named : (c : tie.After-put-name) →
+    let a = start c .args in
+    Storing (a .out .now) (a .at) (engineLine (a .e) (runIn (a .w))) (counts (runIn (a .w))) (c .put-name .last .0) (c .put-name .result)
 unfolding engineLine
-put-bytes-requires c κs =
-    let st = c .before .before .before in
-    let a = st .args in
-    so-front (a .name .now) (counts (runIn (a .w))) (so-none (a .out .now) (a .at) (engineLine (a .name .now) (runIn (a .w)))) (st .pre)
+named c = so-next (nameOf (start c .args .e)) _ (so-none _ _ _) (c .put-name .ensures .1) (c .put-name .ensures .0)
+
+put-name-requires : tie.Need-put-name-requires
+unfolding engineLine
+put-name-requires c κs =
+    let st = c .before .before in
+    so-front (nameOf (st .args .e)) (counts (runIn (st .args .w))) (so-none (st .args .out .now) (st .args .at) _) (st .pre)
 
 put-counts-requires : tie.Need-put-counts-requires
 put-counts-requires c κs =
     let p = c .before .before .before in
-    let st = p .before .before .before .before in
-    so-back (counts (runIn (st .args .w))) (one p) (st .pre)
-
-same-length : tie.Need-same-length
-same-length c = search needs
+    so-back (counts (runIn (start p .args .w))) (named p) (start p .pre)
 
 returns : tie.Need-returns
 returns c =
     let p = c .before .before in
-    let q = p .before .before .before .before in
-    let st = q .before .before .before .before in
-    so-last (counts (runIn (st .args .w))) (one q) (p .put-counts .ensures .1) (p .put-counts .ensures .0)
+    so-last _ (named (p .before .before .before .before)) (p .put-counts .ensures .1) (p .put-counts .ensures .0)
 
 pub put-engine-spec : {M : Type 1} → statement M
-put-engine-spec = tie.close (tie.spec put-bytes-requires put-counts-requires same-length returns)
+put-engine-spec = tie.close (tie.spec put-name-requires put-counts-requires (λ c. search needs) returns)

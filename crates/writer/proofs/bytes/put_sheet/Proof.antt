@@ -1,14 +1,16 @@
 -- `writer::bytes::put_sheet` meets its contract: after each part, what is left to write. Assumes nothing.
 use Prim.Native.Nat.{ℕ, _+_, _≤_}
+use mathlib.Core.Path.{_∙_}
 use mathlib.Core.List.{List, [], _∷_, _++_}
 use native.Mathlib.Omega.{arith}
 use borrow.Author.Needs.{needs}
 use lib.ListN.{length}
 use Rattle.decimal.specs.Decimal.{ended}
-use Rattle.decimal.proofs.StoreLaws.{SoFar, so-none, so-same, so-front, so-next, so-back, so-last}
+use Rattle.lent.proofs.OverLaws.{sets-over}
+use Rattle.lent.proofs.StoreLaws.{Storing, so-none, so-same, so-front, so-next, so-back, so-last}
 use Rattle.notation.specs.Spelling.{line}
 use Rattle.sheet.specs.Bytes.{sheetBytes}
-use Rattle.writer.proofs.LineLaws.{sheet-parts}
+use Rattle.writer.proofs.SheetLaws.{sheet-parts}
 use Rattle.writer.proofs.bytes.put_sheet.Statement.{statement}
 use Rattle.writer.proofs.bytes.put_sheet.Tie as tie
 
@@ -16,10 +18,10 @@ use Rattle.writer.proofs.bytes.put_sheet.Tie as tie
 abbrev Stage : tie.Start → List ℕ → List ℕ → ℕ → Type 0
 Stage st left list e =
     let a = st .args in
-    SoFar (a .out .now) 0 (sheetBytes (a .alphabet .now) (a .pattern .now) (a .text .now)) left list e
+    Storing (a .out .now) 0 (sheetBytes (a .alphabet .now) (a .pattern .now) (a .text .now)) left list e
 
 fits : (st : tie.Start) → let a = st .args in 0 + length (sheetBytes (a .alphabet .now) (a .pattern .now) (a .text .now)) ≤ length (a .out .now)
-fits st = omega (arith, st .pre .3)
+fits st = omega (arith, st .pre .1)
 
 -- the text's line; with its count; with the pattern's line; with its count; with the alphabet's
 abbrev r5 : tie.Start → List ℕ
@@ -103,7 +105,7 @@ put-line-requires : tie.Need-put-line-requires
 put-line-requires c κs =
     let p = c .before .before .before in
     let st = s3 p in
-    (st .pre .0, st .pre .1, so-front (line (st .args .alphabet .now) (st .args .pattern .now)) (r4 st) (w3 p) (fits st))
+    (st .pre .0 .few, st .pre .0 .pattern, so-front (line (st .args .alphabet .now) (st .args .pattern .now)) (r4 st) (w3 p) (fits st))
 
 put-ended-requires-3 : tie.Need-put-ended-requires-3
 put-ended-requires-3 c κs =
@@ -115,16 +117,13 @@ put-line-requires-2 : tie.Need-put-line-requires-2
 put-line-requires-2 c κs =
     let p = c .before .before .before in
     let st = s5 p in
-    (st .pre .0, st .pre .2, so-back (r5 st) (w5 p) (fits st))
-
-same-length : tie.Need-same-length
-same-length c = search needs
+    (st .pre .0 .few, st .pre .0 .text, so-back (r5 st) (w5 p) (fits st))
 
 returns : tie.Need-returns
 returns c =
     let q = c .before .before in
     let p = q .before .before .before .before in
-    so-last (r5 (s5 p)) (w5 p) (q .put-line2 .ensures .1) (q .put-line2 .ensures .0) .1
+    so-last (r5 (s5 p)) (w5 p) (q .put-line2 .ensures .1) (q .put-line2 .ensures .0) .1 ∙ sets-over _ _
 
 pub put-sheet-spec : {M : Type 1} → statement M
 put-sheet-spec =
@@ -136,5 +135,5 @@ put-sheet-spec =
     put-line-requires
     put-ended-requires-3
     put-line-requires-2
-    same-length
+    (λ c. search needs)
     returns)

@@ -1,6 +1,5 @@
 -- `Letter::is_single` meets its contract. Assumes nothing.
 use mathlib.Core.Path.{refl}
-use Prim.Native.Nat.{_-_}
 use Rattle.letters.specs.Letters.{single}
 use Rattle.letters.proofs.letter.Letter.is_single.Statement.{statement}
 use Rattle.letters.proofs.letter.Letter.is_single.Tie as tie

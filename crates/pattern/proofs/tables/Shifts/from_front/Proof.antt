@@ -1,19 +1,16 @@
 -- `Shifts::from_front` meets its contract: the least s that is far enough is the least shift. Assumes nothing.
 use borrow.Author.Needs.{needs}
-use Rattle.pattern.proofs.ShiftTable.{front-shifts}
+use mathlib.Core.Path.{_∙_}
+use Rattle.pattern.specs.Tables.{frontShifts}
+use Rattle.pattern.proofs.ShiftTable.{far-shifts, front-far}
 use Rattle.pattern.proofs.tables.Shifts.from_front.Statement.{statement}
 use Rattle.pattern.proofs.tables.Shifts.from_front.Tie as tie
 
-front-fars-requires : tie.Need-front-fars-requires
-front-fars-requires c κs = search needs
-
-least-shifts-requires : tie.Need-least-shifts-requires
-least-shifts-requires c κs = search needs
-
 returns : tie.Need-returns
+unfolding frontShifts
 returns c =
-    let p = c .before .before .before .before .args .p .now in
-    front-shifts p (c .before .before .front-fars .result) (c .least-shifts .result) (c .before .before .front-fars .ensures) (c .least-shifts .ensures)
+    let k = c .before .before in
+    c .least-shifts .ensures ∙ far-shifts _ _ (k .fars .result) _ _ (k .fars .ensures) (λ h s l. front-far _ h s l)
 
 pub from-front-spec : {M : Type 1} → statement M
-from-front-spec = tie.close (tie.spec front-fars-requires least-shifts-requires returns)
+from-front-spec = tie.close (tie.spec (λ c κs. search needs) (λ c κs. search needs) returns)

@@ -1,4 +1,0 @@
-pub mod CodeLaws
-pub mod CallLaws
-pub mod AnswerLaws
-pub mod ReadLaws

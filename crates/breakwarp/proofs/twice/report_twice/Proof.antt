@@ -1,0 +1,27 @@
+-- `breakwarp::twice::report_twice` meets its contract, by that of `breakwarp_report` alone. Assumes nothing.
+use mathlib.Core.Path.{sym, ap}
+use lib.IntN.{ℤ}
+use mir.Syntax.{w64}
+use mir.Val.{toZ, ofZ}
+use borrow.Author.Needs.{needs}
+use Rattle.promise.proofs.Uniqueness.{one-outcome}
+use Rattle.breakwarp.proofs.twice.report_twice.Statement.{statement}
+use Rattle.breakwarp.proofs.twice.report_twice.Tie as tie
+
+returns : tie.Need-returns
+returns c =
+    let second = c .before .before in
+    let first = second .before .before .before .before in
+    let start = first .before .before .before .before .before in
+    let o = one-outcome (first .breakwarp-report .ensures) (rw (sym (start .pre)) at (second .breakwarp-report2 .ensures)) in
+    (ap (λ (z : ℤ). toZ w64 (ofZ w64 z)) (o .0), o .1)
+
+pub report-twice-spec : {M : Type 1} → statement M
+report-twice-spec =
+    tie.close
+    (tie.spec
+    (λ c κs. search needs)
+    (λ c κs. search needs)
+    (λ c. search needs)
+    (λ c. search needs)
+    returns)

@@ -1,0 +1,3 @@
+pub mod SignedLaws
+pub mod CodeLaws
+pub mod CallLaws

@@ -1,0 +1,28 @@
+-- `products::c::to_called` meets its contract: a shell over one call. Assumes nothing.
+use mathlib.Core.Path.{_∙_}
+use mathlib.Core.List.{map}
+use native.Mathlib.Omega.{arith}
+use borrow.Author.Needs.{needs}
+use Rattle.codes.proofs.SignedLaws.{read-back}
+use Rattle.codes.proofs.CodeLaws.{written-called, wrote-most}
+use Rattle.products.specs.Primes.{productOf}
+use Rattle.products.specs.Conversions.{toVerdict}
+use Rattle.products.proofs.CheckLaws.{to-short}
+use Rattle.products.proofs.c.to_called.Statement.{statement}
+use Rattle.products.proofs.c.to_called.Tie as tie
+
+written-code-requires : tie.Need-written-code-requires
+written-code-requires c κs =
+    let l = wrote-most _ _ _ _ _ (c .before .before .to-products .ensures) _ (to-short _ _ _ _ _ _ _) in
+    omega arith
+
+returns : tie.Need-returns
+returns c =
+    let s = c .before .before .before in
+    let a = s .before .before .before .before .args in
+    written-called (toVerdict _ _ _ _ _ _) (map productOf (a .letters .now)) (a .products .now) _ _ (s .to-products .ensures) _
+    (read-back _ (c .written-code .ok) ∙ c .written-code .ensures)
+
+pub to-called-spec : {M : Type 1} → statement M
+to-called-spec =
+    tie.close (tie.spec (λ c κs. search needs) written-code-requires (λ c. search needs) returns)

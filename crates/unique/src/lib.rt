@@ -1,1 +1,0 @@
-// That every public call has one outcome is proved in proofs/; there is no code here.
