@@ -1,57 +1,89 @@
-# make search SHEET=sheets/worked.sheet   prove what the program needs, build it, and search a sheet
-# make test                               the gate and the tests from outside, the same as .ci/run
-# make lib                                prove the library and build target/staticlib/libbreakwarp.a
-# make install DESTDIR=.. PREFIX=..       header, archive, program, man pages, pkg-config file; make uninstall removes them
-# make bench                              time the six searches beside the same engines in plain C
-# make fmt                                lay out every .rt and .antt file
 SHEET ?= sheets/worked.sheet
 PREFIX ?= /usr/local
 DESTDIR ?=
-VERSION = 1.0
+VERSION := $(shell sed -n 's/^.define BREAKWARP_VERSION "\(.*\)".*/\1/p' c/breakwarp.h)
 I = $(DESTDIR)$(PREFIX)
-.PHONY: search program lib test bench fmt install uninstall
+LIB = target/staticlib/libbreakwarp.a
+PROGRAM = target/bin/search
+SOURCES = crates.txt $(shell find crates -name '*.rt' -o -name '*.antt')
+CALLS = brute kmp bm sunday shiftand hybrid to_products from_products products_meet read_sheet write_sheet report
+.PHONY: help search sheet program lib test bench fmt install uninstall clean
+.DELETE_ON_ERROR:
 
-search: program
-	@target/bin/search < $(SHEET)
+help:
+	@echo 'make search SHEET=sheets/worked.sheet   prove what the program needs, build it, and search a sheet'
+	@echo 'make test                               the gate and the tests from outside, the same as .ci/run'
+	@echo 'make lib                                prove the library and build $(LIB)'
+	@echo 'make install DESTDIR=.. PREFIX=..       header, archive, program, manual pages, pkg-config file, example; make uninstall removes them'
+	@echo 'make bench                              time the six searches beside the same engines in plain C'
+	@echo 'make fmt                                lay out every .rt and .antt file'
+	@echo 'make clean                              remove target/, where all that is built lies'
 
-program:
-	@mkdir -p target && rt check search > target/search.out 2>&1 || { tail -n 20 target/search.out; exit 1; }
+search: sheet $(PROGRAM)
+	@$(PROGRAM) < "$(SHEET)"
+
+# The sheet is looked for before minutes of proving, not after them.
+sheet:
+	@test -r "$(SHEET)" || { echo "no sheet \"$(SHEET)\": make search SHEET=sheets/worked.sheet" >&2; exit 1; }
+
+program: $(PROGRAM)
+lib: $(LIB)
+
+$(PROGRAM): $(SOURCES)
+	@bash .ci/need rt
+	@bash .ci/proving target/search.out search rt check search
+	@touch $@
 
 # The functions are set to lines of 64 bytes, code unchanged: a short loop that crosses one can take twice as long (docs/SPEED.md).
-lib:
-	@mkdir -p target && rt staticlib breakwarp > target/lib.out 2>&1 || { tail -n 20 target/lib.out; exit 1; }
-	@objcopy --set-section-alignment '.text.*=64' target/staticlib/libbreakwarp.a
+$(LIB): $(SOURCES)
+	@bash .ci/need rt binutils
+	@bash .ci/proving target/lib.out breakwarp rt staticlib breakwarp
+	@objcopy --set-section-alignment '.text.*=64' $@
+	@touch $@
 
 test:
 	bash .ci/run
 
 # The C engines are built by the kit's own clang, the same LLVM that builds the library. It has no headers of its own, so gcc reads them in.
-# How fast a short loop runs depends on where the linker puts it, so the means are taken at four places.
+# How fast a short loop runs depends on where the linker puts it, so the means are taken at four places. The run goes to $(BENCH)/run.txt, and
+# the tables that are made of it and of the run before to $(BENCH)/tables.md.
 CC_K ?= $(firstword $(wildcard $(dir $(shell readlink -f `which rt`))../on/x86_64/toolchain/bin/clang) $(shell which clang) cc)
 BENCH = target/bench
-bench: lib
+bench: $(LIB)
+	@bash .ci/need gcc
 	@mkdir -p $(BENCH)
 	@gcc -E -P bench/engines.c -o $(BENCH)/engines.i.c
 	@$(CC_K) -O3 -falign-functions=64 -falign-loops=32 -c $(BENCH)/engines.i.c -o $(BENCH)/engines.o
 	@gcc -std=c11 -O2 -Wall -Wextra -c bench/bench.c -o $(BENCH)/bench.o
 	@for pad in 0 16 32 48; do gcc -DPAD=$$pad -c bench/pad.c -o $(BENCH)/pad.o && \
-	  gcc -o $(BENCH)/bench-$$pad $(BENCH)/bench.o $(BENCH)/engines.o $(BENCH)/pad.o target/staticlib/libbreakwarp.a || exit 1; done
-	$(BENCH)/bench-0
-	@for pad in 16 32 48; do echo; echo "moved by $$pad bytes"; $(BENCH)/bench-$$pad means || exit 1; done
-	$(BENCH)/bench-0 grow
+	  gcc -o $(BENCH)/bench-$$pad $(BENCH)/bench.o $(BENCH)/engines.o $(BENCH)/pad.o $(LIB) || exit 1; done
+	@if [ -f $(BENCH)/run.txt ]; then mv $(BENCH)/run.txt $(BENCH)/before.txt; fi
+	@{ $(BENCH)/bench-0 && \
+	  for pad in 16 32 48; do echo; echo "moved by $$pad bytes"; $(BENCH)/bench-$$pad means || exit 1; done && \
+	  $(BENCH)/bench-0 grow; } > $(BENCH)/running.txt
+	@mv $(BENCH)/running.txt $(BENCH)/run.txt
+	@cat $(BENCH)/run.txt
+	@python3 bench/tables.py $(BENCH)/run.txt `ls $(BENCH)/before.txt 2>/dev/null || echo $(BENCH)/run.txt` > $(BENCH)/tables.md
 
 fmt:
 	rt fmt
 
-install: lib program
-	install -d $(I)/include $(I)/lib/pkgconfig $(I)/bin $(I)/share/man/man1 $(I)/share/man/man3
+install: $(LIB) $(PROGRAM)
+	install -d $(I)/include $(I)/lib/pkgconfig $(I)/bin $(I)/share/man/man1 $(I)/share/man/man3 $(I)/share/doc/breakwarp
 	install -m 644 c/breakwarp.h $(I)/include/
-	install -m 644 target/staticlib/libbreakwarp.a $(I)/lib/
-	sed -e 's|@PREFIX@|$(PREFIX)|' -e 's|@VERSION@|$(VERSION)|' c/breakwarp.pc.in > $(I)/lib/pkgconfig/breakwarp.pc
-	install -m 755 target/bin/search $(I)/bin/
+	install -m 644 $(LIB) $(I)/lib/
+	sed -e '/^#/d' -e 's|@PREFIX@|$(PREFIX)|' -e 's|@VERSION@|$(VERSION)|' c/breakwarp.pc.in > $(I)/lib/pkgconfig/breakwarp.pc
+	install -m 755 $(PROGRAM) $(I)/bin/
 	install -m 644 c/search.1 $(I)/share/man/man1/
 	install -m 644 c/breakwarp.3 $(I)/share/man/man3/
+	for call in $(CALLS); do ln -sf breakwarp.3 $(I)/share/man/man3/breakwarp_$$call.3; done
+	install -m 644 c/example.c $(I)/share/doc/breakwarp/
 
 uninstall:
 	rm -f $(I)/include/breakwarp.h $(I)/lib/libbreakwarp.a $(I)/lib/pkgconfig/breakwarp.pc $(I)/bin/search \
-	  $(I)/share/man/man1/search.1 $(I)/share/man/man3/breakwarp.3
+	  $(I)/share/man/man1/search.1 $(I)/share/man/man3/breakwarp.3 $(foreach call,$(CALLS),$(I)/share/man/man3/breakwarp_$(call).3) \
+	  $(I)/share/doc/breakwarp/example.c
+	rmdir $(I)/share/doc/breakwarp 2>/dev/null || true
+
+clean:
+	rm -rf target

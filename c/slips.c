@@ -39,6 +39,10 @@ static int64_t slipped(const char *call, int64_t answer, struct output out, cons
         ((unsigned char *)(uintptr_t)input)[bytes - 1] ^= 1;
     if (asked(call, "errno"))
         errno = 1;
+    if (asked(call, "place") && answer < 0)
+        return answer - 256;
+    if (asked(call, "no-place") && answer < 0)
+        return -BREAKWARP_NUMBER(answer);
     return asked(call, "answer") ? answer + 1 : answer;
 }
 

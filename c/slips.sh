@@ -27,7 +27,9 @@ try() {
 }
 
 for call in $calls; do
-    try "$call" answer
+    for slip in answer place; do try "$call" "$slip"; done
+    # The report tells no place.
+    [ "$call" = report ] || try "$call" no-place
     [ "$call" = products_meet ] && continue
     for slip in value before after tail refused input errno; do try "$call" "$slip"; done
 done

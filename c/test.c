@@ -1,6 +1,6 @@
-/* Every call of breakwarp.h, from C.
+/* Every call of breakwarp.h, from C. From the top folder:
  *
- *     cc -std=c11 -Wall -Wextra -Werror -o test test.c libbreakwarp.a && ./test
+ *     cc -std=c11 -Wall -Wextra -Werror -o target/test c/test.c target/staticlib/libbreakwarp.a && target/test
  *
  * Prints `c: N checks` and ends with 0, or says what differs and ends with 1. What is lent for reading stands in
  * blocks of its exact size, so that valgrind sees a read beside it; what is lent for writing stands between guards
@@ -22,6 +22,15 @@ _Static_assert(BREAKWARP_REFUSED_ROOM == 8 && BREAKWARP_REFUSED_SHEET == 10, "re
 _Static_assert(BREAKWARP_REFUSED_COUNT == 11 && BREAKWARP_REFUSED_ALPHABET == 12, "refusals 11 and 12");
 _Static_assert(BREAKWARP_REFUSED_NOTATION == 13 && BREAKWARP_REFUSED_DIFFERS == 14, "refusals 13 and 14");
 _Static_assert(BREAKWARP_REFUSED_AFTER == 15, "refusal 15");
+_Static_assert(BREAKWARP_MAX_SHEET_TEXT == 8192 && BREAKWARP_MAX_REPORT == 40000, "what is long enough");
+
+/* What a refused call returns, written a second time. */
+#define AT(number, place) (-((int64_t)(number) + 256 * (int64_t)(place)))
+
+_Static_assert(BREAKWARP_NUMBER(-13 - 256 * 24) == 13 && BREAKWARP_PLACE(-13 - 256 * 24) == 24, "taken apart");
+_Static_assert(BREAKWARP_NUMBER(-8) == 8 && BREAKWARP_PLACE(-8) == 0, "taken apart without a place");
+_Static_assert(BREAKWARP_NUMBER(AT(15, INT64_C(1) << 48)) == 15, "the number beside the farthest place");
+_Static_assert(BREAKWARP_PLACE(AT(15, INT64_C(1) << 48)) == INT64_C(1) << 48, "the farthest place");
 
 #define LENGTH(array) (sizeof(array) / sizeof(array)[0])
 
@@ -190,33 +199,35 @@ static void small_searches(void)
 
 static void search_refusals(void)
 {
-    static const uint32_t bad[] = {1, 2, 8}, empty[] = {1, 0}, good[] = {1, 2, 4};
+    static const uint32_t bad[] = {1, 2, 8}, empty[] = {1, 0}, twice[] = {1, 8, 0}, good[] = {1, 2, 4};
     static const struct {
         uint32_t k;
         const uint32_t *p;
         size_t m;
         const uint32_t *t;
         size_t n, nwork;
-        int refusal;
+        int refusal, place;
     } rows[] = {
-        {0, good, 1, good, 3, 3, BREAKWARP_REFUSED_K},
-        {33, good, 1, good, 3, 3, BREAKWARP_REFUSED_K},
-        {UINT32_MAX, NULL, 0, bad, 3, 0, BREAKWARP_REFUSED_K},
-        {3, NULL, 0, good, 3, 3, BREAKWARP_REFUSED_M},
-        {3, NULL, 0, bad, 3, 0, BREAKWARP_REFUSED_M},
-        {3, bad, 3, good, 3, 3, BREAKWARP_REFUSED_PATTERN},
-        {3, empty, 2, good, 3, 3, BREAKWARP_REFUSED_PATTERN},
-        {3, empty, 2, bad, 3, 2, BREAKWARP_REFUSED_PATTERN},
-        {3, good, 1, bad, 3, 3, BREAKWARP_REFUSED_TEXT},
-        {3, good, 1, empty, 2, 0, BREAKWARP_REFUSED_TEXT},
-        {2, good, 1, good, 3, 3, BREAKWARP_REFUSED_TEXT},
-        {3, good, 1, good, 3, 2, BREAKWARP_REFUSED_ROOM},
-        {3, good, 1, good, 3, 0, BREAKWARP_REFUSED_ROOM},
+        {0, good, 1, good, 3, 3, BREAKWARP_REFUSED_K, 0},
+        {33, good, 1, good, 3, 3, BREAKWARP_REFUSED_K, 0},
+        {UINT32_MAX, NULL, 0, bad, 3, 0, BREAKWARP_REFUSED_K, 0},
+        {3, NULL, 0, good, 3, 3, BREAKWARP_REFUSED_M, 0},
+        {3, NULL, 0, bad, 3, 0, BREAKWARP_REFUSED_M, 0},
+        {3, bad, 3, good, 3, 3, BREAKWARP_REFUSED_PATTERN, 2},
+        {3, empty, 2, good, 3, 3, BREAKWARP_REFUSED_PATTERN, 1},
+        {3, empty, 2, bad, 3, 2, BREAKWARP_REFUSED_PATTERN, 1},
+        {3, good, 1, bad, 3, 3, BREAKWARP_REFUSED_TEXT, 2},
+        {3, good, 1, empty, 2, 0, BREAKWARP_REFUSED_TEXT, 1},
+        {2, good, 1, good, 3, 3, BREAKWARP_REFUSED_TEXT, 2},
+        {3, twice, 3, good, 3, 3, BREAKWARP_REFUSED_PATTERN, 1},
+        {3, good, 1, twice, 3, 3, BREAKWARP_REFUSED_TEXT, 1},
+        {3, good, 1, good, 3, 2, BREAKWARP_REFUSED_ROOM, 0},
+        {3, good, 1, good, 3, 0, BREAKWARP_REFUSED_ROOM, 0},
     };
     for (size_t e = 0; e < ENGINES; e++)
         for (size_t r = 0; r < LENGTH(rows); r++)
-            try_search(e, rows[r].k, rows[r].p, rows[r].m, rows[r].t, rows[r].n, 5, rows[r].nwork, -rows[r].refusal,
-                       NULL, NULL);
+            try_search(e, rows[r].k, rows[r].p, rows[r].m, rows[r].t, rows[r].n, 5, rows[r].nwork,
+                       AT(rows[r].refusal, rows[r].place), NULL, NULL);
 }
 
 /* The largest text, the longest pattern, the largest alphabet, and one more of each. */
@@ -242,6 +253,13 @@ static void search_limits(void)
         try_search(e, 32, pattern, 65, text, 65537, 4, 3, -BREAKWARP_REFUSED_M, NULL, NULL);
         try_search(e, 31, pattern, 64, text, 65536, 4, 3, -BREAKWARP_REFUSED_PATTERN, NULL, NULL);
         try_search(e, 33, pattern, 65, text, 65537, 4, 3, -BREAKWARP_REFUSED_K, NULL, NULL);
+    }
+    /* The farthest place of a search: the last letter of the largest text. */
+    text[BREAKWARP_MAX_N - 1] = 0;
+    pattern[BREAKWARP_MAX_M - 1] = 0;
+    for (size_t e = 0; e < ENGINES; e++) {
+        try_search(e, 32, pattern, 63, text, 65536, 4, 3, AT(BREAKWARP_REFUSED_TEXT, 65535), NULL, NULL);
+        try_search(e, 32, pattern, 64, text, 65536, 4, 3, AT(BREAKWARP_REFUSED_PATTERN, 63), NULL, NULL);
     }
     free(text);
     free(hits);
@@ -288,7 +306,7 @@ static void try_convert(const char *name, convert *call, uint32_t k, const uint3
 static void conversions(void)
 {
     static const uint32_t letters[] = {3, 4, 7}, products[] = {6, 5, 30}, nine[] = {0x1ff}, most[] = {223092870};
-    static const uint32_t none[] = {0, 1, 4, 7}, bad[] = {1, 8}, empty[] = {0};
+    static const uint32_t none[] = {0, 1, 4, 7}, mixed[] = {6, 5, 4, 0}, bad[] = {1, 8}, empty[] = {0};
     for (size_t cap = 3; cap <= 5; cap++) {
         TO(3, letters, 3, cap, 3, products);
         FROM(3, products, 3, cap, 3, letters);
@@ -302,7 +320,8 @@ static void conversions(void)
     for (size_t at = 0; at < LENGTH(none); at++)
         FROM(3, none + at, 1, 1, -BREAKWARP_REFUSED_PRODUCT, NULL);
     FROM(8, most, 1, 0, -BREAKWARP_REFUSED_PRODUCT, NULL);
-    TO(3, bad, 2, 1, -BREAKWARP_REFUSED_TEXT, NULL);
+    FROM(3, mixed, 4, 4, AT(BREAKWARP_REFUSED_PRODUCT, 2), NULL);
+    TO(3, bad, 2, 1, AT(BREAKWARP_REFUSED_TEXT, 1), NULL);
     TO(3, empty, 1, 1, -BREAKWARP_REFUSED_TEXT, NULL);
     for (uint32_t k = 10; k <= 32; k++) {
         TO(k, empty, 1, 0, -BREAKWARP_REFUSED_PRODUCT_K, NULL);
@@ -337,8 +356,8 @@ static void long_conversions(void)
     FROM(3, products, n, n, -BREAKWARP_REFUSED_N, NULL);
     letters[n - 2] = 0;
     products[n - 2] = 9;
-    TO(3, letters, n - 1, n, -BREAKWARP_REFUSED_TEXT, NULL);
-    FROM(3, products, n - 1, n, -BREAKWARP_REFUSED_PRODUCT, NULL);
+    TO(3, letters, n - 1, n, AT(BREAKWARP_REFUSED_TEXT, n - 2), NULL);
+    FROM(3, products, n - 1, n, AT(BREAKWARP_REFUSED_PRODUCT, n - 2), NULL);
     free(letters);
     free(products);
 }
@@ -352,7 +371,7 @@ static void meetings(void)
     same("30 and 30", breakwarp_products_meet(3, 30, 30), 1);
     same("all nine and 23", breakwarp_products_meet(9, 223092870, 23), 1);
     same("0 and 6", breakwarp_products_meet(3, 0, 6), -BREAKWARP_REFUSED_PRODUCT);
-    same("6 and 7", breakwarp_products_meet(3, 6, 7), -BREAKWARP_REFUSED_PRODUCT);
+    same("6 and 7", breakwarp_products_meet(3, 6, 7), AT(BREAKWARP_REFUSED_PRODUCT, 1));
     same("1 and 1", breakwarp_products_meet(3, 1, 1), -BREAKWARP_REFUSED_PRODUCT);
     same("k 10", breakwarp_products_meet(10, 0, 0), -BREAKWARP_REFUSED_PRODUCT_K);
     same("k 32", breakwarp_products_meet(32, 6, 6), -BREAKWARP_REFUSED_PRODUCT_K);
@@ -406,7 +425,9 @@ static void readings(void)
                       : end < 13 ? BREAKWARP_REFUSED_NOTATION
                       : end < 16 ? BREAKWARP_REFUSED_COUNT
                                  : BREAKWARP_REFUSED_NOTATION;
-        try_read(worked, end, 3, 4, 12, 3, -refusal);
+        /* A count line that is cut is missing where it should begin; a letter line is wrong at the sheet's length. */
+        size_t place = refusal != BREAKWARP_REFUSED_COUNT ? end : end < 2 ? 0 : end < 8 ? 6 : 13;
+        try_read(worked, end, 3, 4, 12, 3, AT(refusal, place));
     }
     snprintf(about, sizeof about, "read_sheet with null pointers");
     same("no sheet", breakwarp_read_sheet(NULL, 0, NULL, 0, NULL, 0, NULL, 0, NULL, 0), -BREAKWARP_REFUSED_COUNT);
@@ -423,30 +444,30 @@ static void readings(void)
     same("its letter", letter[0], 1);
 }
 
-/* Wrong sheets, each with its refusal. */
+/* Wrong sheets, each with its refusal and the place of it. */
 static const struct {
     const char *sheet;
-    int refusal;
+    int refusal, place;
 } wrong[] = {
-    {"", BREAKWARP_REFUSED_COUNT},
-    {"03\naen\n1\na\n1\na\n", BREAKWARP_REFUSED_COUNT},
-    {"3\r\naen\r\n1\r\na\r\n1\r\na\r\n", BREAKWARP_REFUSED_COUNT},
-    {"0\n\n1\na\n1\na\n", BREAKWARP_REFUSED_K},
-    {"33\naen\n1\na\n1\na\n", BREAKWARP_REFUSED_K},
-    {"3\naea\n1\na\n1\na\n", BREAKWARP_REFUSED_ALPHABET},
-    {"3\naen]\n1\na\n1\na\n", BREAKWARP_REFUSED_ALPHABET},
-    {"3\naen\n0\n\n1\na\n", BREAKWARP_REFUSED_M},
-    {"3\naen\n65\na\n1\na\n", BREAKWARP_REFUSED_M},
-    {"3\naen\n1\na\n65537\na\n", BREAKWARP_REFUSED_N},
-    {"3\naen\n1\na\n100000\na\n", BREAKWARP_REFUSED_COUNT},
-    {"3\naen\n1\n[ea]\n1\na\n", BREAKWARP_REFUSED_NOTATION},
-    {"3\naen\n1\na\n1\n[a]\n", BREAKWARP_REFUSED_NOTATION},
-    {"3\naen\n1\na\n1\n[aen]\n", BREAKWARP_REFUSED_NOTATION},
-    {"2\nae\n1\na\n1\n[ae]\n", BREAKWARP_REFUSED_NOTATION},
-    {"1\na\n1\na\n1\n*\n", BREAKWARP_REFUSED_NOTATION},
-    {"3\naen\n2\na\n1\na\n", BREAKWARP_REFUSED_DIFFERS},
-    {"3\naen\n1\na\n65536\na\n", BREAKWARP_REFUSED_DIFFERS},
-    {"3\naen\n1\na\n1\na\n\n", BREAKWARP_REFUSED_AFTER},
+    {"", BREAKWARP_REFUSED_COUNT, 0},
+    {"03\naen\n1\na\n1\na\n", BREAKWARP_REFUSED_COUNT, 0},
+    {"3\r\naen\r\n1\r\na\r\n1\r\na\r\n", BREAKWARP_REFUSED_COUNT, 0},
+    {"0\n\n1\na\n1\na\n", BREAKWARP_REFUSED_K, 0},
+    {"33\naen\n1\na\n1\na\n", BREAKWARP_REFUSED_K, 0},
+    {"3\naea\n1\na\n1\na\n", BREAKWARP_REFUSED_ALPHABET, 4},
+    {"3\naen]\n1\na\n1\na\n", BREAKWARP_REFUSED_ALPHABET, 5},
+    {"3\naen\n0\n\n1\na\n", BREAKWARP_REFUSED_M, 6},
+    {"3\naen\n65\na\n1\na\n", BREAKWARP_REFUSED_M, 6},
+    {"3\naen\n1\na\n65537\na\n", BREAKWARP_REFUSED_N, 10},
+    {"3\naen\n1\na\n100000\na\n", BREAKWARP_REFUSED_COUNT, 10},
+    {"3\naen\n1\n[ea]\n1\na\n", BREAKWARP_REFUSED_NOTATION, 10},
+    {"3\naen\n1\na\n1\n[a]\n", BREAKWARP_REFUSED_NOTATION, 14},
+    {"3\naen\n1\na\n1\n[aen]\n", BREAKWARP_REFUSED_NOTATION, 15},
+    {"2\nae\n1\na\n1\n[ae]\n", BREAKWARP_REFUSED_NOTATION, 11},
+    {"1\na\n1\na\n1\n*\n", BREAKWARP_REFUSED_NOTATION, 10},
+    {"3\naen\n2\na\n1\na\n", BREAKWARP_REFUSED_DIFFERS, 6},
+    {"3\naen\n1\na\n65536\na\n", BREAKWARP_REFUSED_DIFFERS, 10},
+    {"3\naen\n1\na\n1\na\n\n", BREAKWARP_REFUSED_AFTER, 14},
 };
 
 static void try_report(const char *bytes, size_t length, size_t cap, int64_t answer, const char *due)
@@ -465,7 +486,7 @@ static void try_report(const char *bytes, size_t length, size_t cap, int64_t ans
 static void refused_sheets(void)
 {
     for (size_t w = 0; w < LENGTH(wrong); w++) {
-        try_read(wrong[w].sheet, strlen(wrong[w].sheet), 33, 65, 9, 3, -wrong[w].refusal);
+        try_read(wrong[w].sheet, strlen(wrong[w].sheet), 33, 65, 9, 3, AT(wrong[w].refusal, wrong[w].place));
         try_report(wrong[w].sheet, strlen(wrong[w].sheet), 500, -wrong[w].refusal, NULL);
         try_report(wrong[w].sheet, strlen(wrong[w].sheet), 0, -wrong[w].refusal, NULL);
     }
@@ -475,6 +496,29 @@ static void refused_sheets(void)
     try_report(large, sizeof large, 500, -BREAKWARP_REFUSED_SHEET, NULL);
     try_read(large, sizeof large - 1, 3, 4, 12, 3, -BREAKWARP_REFUSED_COUNT);
     try_report(large, sizeof large - 1, 500, -BREAKWARP_REFUSED_COUNT, NULL);
+}
+
+/* What a screen does with a refused report: the reader tells the place, and with these lengths it never says 8. */
+static void places_of_reports(void)
+{
+    static uint8_t alphabet[BREAKWARP_MAX_K], report[BREAKWARP_MAX_REPORT];
+    static uint32_t pattern[BREAKWARP_MAX_M], text[BREAKWARP_MAX_SHEET_TEXT];
+    uint64_t sizes[3];
+    for (size_t w = 0; w < LENGTH(wrong); w++) {
+        const uint8_t *sheet = (const uint8_t *)wrong[w].sheet;
+        size_t length = strlen(wrong[w].sheet);
+        snprintf(about, sizeof about, "the place of a report of %.20s", wrong[w].sheet);
+        int64_t told = breakwarp_report(sheet, length, report, sizeof report);
+        int64_t r = breakwarp_read_sheet(sheet, length, alphabet, BREAKWARP_MAX_K, pattern, BREAKWARP_MAX_M, text,
+                                         BREAKWARP_MAX_SHEET_TEXT, sizes, 3);
+        same("number of the report", BREAKWARP_NUMBER(told), wrong[w].refusal);
+        same("place of the report", BREAKWARP_PLACE(told), 0);
+        same("number", BREAKWARP_NUMBER(r), wrong[w].refusal);
+        same("place", BREAKWARP_PLACE(r), wrong[w].place);
+        int64_t answers[] = {r, 0}, *next = answers;
+        same("evaluated once", BREAKWARP_PLACE(*next++), wrong[w].place);
+        same("evaluations", next - answers, 1);
+    }
 }
 
 static void reports(void)
@@ -535,14 +579,16 @@ static void writings(void)
     try_write(1, "a", 1, a, 1, NULL, 0, 20, 11, "1\na\n1\na\n0\n\n");
     try_write(0, "", 0, NULL, 0, bad, 2, 0, -BREAKWARP_REFUSED_K, NULL);
     try_write(33, "aen", 3, anna, 4, page, 12, 99, -BREAKWARP_REFUSED_K, NULL);
-    try_write(3, "ae", 2, NULL, 0, bad, 2, 0, -BREAKWARP_REFUSED_ALPHABET, NULL);
-    try_write(3, "aenx", 4, anna, 4, page, 12, 99, -BREAKWARP_REFUSED_ALPHABET, NULL);
-    try_write(3, "aea", 3, anna, 4, page, 12, 99, -BREAKWARP_REFUSED_ALPHABET, NULL);
-    try_write(3, "a*n", 3, anna, 4, page, 12, 99, -BREAKWARP_REFUSED_ALPHABET, NULL);
-    try_write(3, "a\nn", 3, anna, 4, page, 12, 99, -BREAKWARP_REFUSED_ALPHABET, NULL);
+    try_write(3, "ae", 2, NULL, 0, bad, 2, 0, AT(BREAKWARP_REFUSED_ALPHABET, 2), NULL);
+    try_write(3, "aenx", 4, anna, 4, page, 12, 99, AT(BREAKWARP_REFUSED_ALPHABET, 3), NULL);
+    try_write(3, "aea", 3, anna, 4, page, 12, 99, AT(BREAKWARP_REFUSED_ALPHABET, 2), NULL);
+    try_write(3, "a*n", 3, anna, 4, page, 12, 99, AT(BREAKWARP_REFUSED_ALPHABET, 1), NULL);
+    try_write(3, "a\nn", 3, anna, 4, page, 12, 99, AT(BREAKWARP_REFUSED_ALPHABET, 1), NULL);
     try_write(3, "aen", 3, NULL, 0, bad, 2, 0, -BREAKWARP_REFUSED_M, NULL);
-    try_write(3, "aen", 3, bad, 2, bad, 2, 0, -BREAKWARP_REFUSED_PATTERN, NULL);
-    try_write(3, "aen", 3, anna, 4, bad, 2, 0, -BREAKWARP_REFUSED_TEXT, NULL);
+    try_write(3, "aaxyz", 5, anna, 4, page, 12, 99, AT(BREAKWARP_REFUSED_ALPHABET, 1), NULL);
+    try_write(3, "aenxyz", 6, anna, 4, page, 12, 99, AT(BREAKWARP_REFUSED_ALPHABET, 3), NULL);
+    try_write(3, "aen", 3, bad, 2, bad, 2, 0, AT(BREAKWARP_REFUSED_PATTERN, 1), NULL);
+    try_write(3, "aen", 3, anna, 4, bad, 2, 0, AT(BREAKWARP_REFUSED_TEXT, 1), NULL);
     /* Eight thousand letters and more: 8,192 bytes are written, one more is refused, whatever the room. */
     size_t n = BREAKWARP_MAX_N + 1;
     uint32_t *text = malloc(n * sizeof *text);
@@ -581,6 +627,7 @@ int main(void)
     meetings();
     readings();
     refused_sheets();
+    places_of_reports();
     reports();
     longest_report();
     writings();

@@ -1,6 +1,6 @@
-// The header from C++.
+// The header from C++. From the top folder:
 //
-//     c++ -std=c++17 -Wall -Wextra -Werror -o test_cpp test.cpp libbreakwarp.a && ./test_cpp
+//     c++ -std=c++17 -Wall -Wextra -Werror -o target/test-cpp c/test.cpp target/staticlib/libbreakwarp.a && target/test-cpp
 #include "breakwarp.h"
 
 #include <array>
@@ -29,6 +29,14 @@ int main()
         std::puts("c++: an in eeean is not found as it should be");
         return 1;
     }
-    std::puts("c++: 2 checks");
+    const std::array<std::uint32_t, 3> wrong{1, 2, 8};
+    const auto refused = breakwarp_brute(3, pattern.data(), pattern.size(), wrong.data(), wrong.size(), hits.data(),
+                                         hits.size(), work.data(), work.size());
+    static_assert(BREAKWARP_NUMBER(-5 - 256 * 2) == 5 && BREAKWARP_PLACE(-5 - 256 * 2) == 2, "taken apart");
+    if (BREAKWARP_NUMBER(refused) != BREAKWARP_REFUSED_TEXT || BREAKWARP_PLACE(refused) != 2) {
+        std::puts("c++: a wrong text letter is not refused at its place");
+        return 1;
+    }
+    std::puts("c++: 3 checks");
     return 0;
 }

@@ -26,7 +26,7 @@ unsafe fn put<T: Copy>(pointer: *mut T, length: usize, values: &[T]) {
 fn answer(result: Result<usize, Refusal>) -> i64 {
     match result {
         Ok(value) => value as i64,
-        Err(refusal) => -i64::from(refusal.number),
+        Err(refusal) => refusal.code(),
     }
 }
 
@@ -155,5 +155,8 @@ pub unsafe extern "C" fn breakwarp_report(sheet: *const u8, nsheet: usize, out: 
         put(out, cap, &bytes);
         Ok(bytes.len())
     });
-    answer(written)
+    match written {
+        Ok(length) => length as i64,
+        Err(refusal) => refusal.number_code(),
+    }
 }

@@ -15,6 +15,21 @@ pub struct Refusal {
     pub place: usize,
 }
 
+/// The largest place that C is told: one above it is told as this one.
+pub const FARTHEST: usize = 1 << 48;
+
+impl Refusal {
+    /// What a refused call from C returns: minus the number and 256 times the place.
+    pub fn code(self) -> i64 {
+        -i64::from(self.number) - 256 * self.place.min(FARTHEST) as i64
+    }
+
+    /// The same without the place, as the report is refused.
+    pub fn number_code(self) -> i64 {
+        -i64::from(self.number)
+    }
+}
+
 pub fn refuse<T>(number: u32, place: usize) -> Result<T, Refusal> {
     Err(Refusal { number, place })
 }

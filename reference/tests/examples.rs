@@ -203,3 +203,15 @@ fn the_empty_text_has_an_empty_line() {
     let printed = String::from_utf8(printed(b"3\naen\n1\na\n0\n\n")).unwrap();
     assert_eq!(printed, "hits 0\nbrute 0 0 0\nkmp 0 0 0\nbm 0 0 0\nsunday 0 0 0\nshiftand 0 0 0\nhybrid 0 0 0\n");
 }
+
+#[test]
+fn c_is_told_number_and_place_in_one() {
+    let rows = [(8, 0, -8), (13, 24, -13 - 256 * 24), (5, 65_535, -5 - 256 * 65_535), (15, 1, -271)];
+    for (number, place, code) in rows {
+        assert_eq!(Refusal { number, place }.code(), code);
+        assert_eq!(Refusal { number, place }.number_code(), -i64::from(number));
+    }
+    for place in [(1 << 48) - 1, 1 << 48, (1 << 48) + 1, usize::MAX] {
+        assert_eq!(Refusal { number: 15, place }.code(), -15 - 256 * (place as i128).min(1 << 48) as i64);
+    }
+}

@@ -16,6 +16,8 @@ const fn slip(name: &'static str, groups: &'static [&'static str], what: &'stati
 }
 
 const SEARCHES: &[&str] = &["exhaustive", "random", "limits"];
+const SHEETS: &[&str] = &["read", "program"];
+const PLACES: &[&str] = &["refusals", "products", "read", "write", "program"];
 
 pub const SLIPS: &[Slip] = &[
     slip("total", SEARCHES, "the total is one too high where there are hits"),
@@ -63,8 +65,24 @@ pub const SLIPS: &[Slip] = &[
     slip("report-byte", &["reports"], "the last digit is another one"),
     slip("report-room", &["reports"], "a report needs one byte more than it has"),
     slip("report-writes", &["reports"], "a report refused by 8 fills what there is"),
-    slip("place", &["program"], "every place but 0 is one too high"),
-    slip("bracket-place", &["program"], "a member that is wrong before a closer is found at the closer"),
+    slip("report-place", &["reports"], "a refused report tells its place"),
+    slip("place", PLACES, "every place but 0 is one too high"),
+    slip("no-place", PLACES, "every place is 0"),
+    slip("place-4", &["refusals", "write"], "the place of a 4 is one too high"),
+    slip("place-5", &["refusals", "products", "write"], "the place of a 5 is one too high"),
+    slip("place-7", &["products"], "the place of a 7 is one too high"),
+    slip("place-12", &["read", "write", "program"], "the place of a 12 is one too high"),
+    slip("highest", &["refusals", "products"], "the highest index of a wrong letter is named, not the lowest"),
+    slip("highest-7", &["products"], "the highest index of a value that is no product is named"),
+    slip("second-at-0", &["products"], "the second of two products is named as the first"),
+    slip("write-first-of-two", &["write"], "of two equal bytes of an alphabet the first is named"),
+    slip("write-last-surplus", &["write"], "of the surplus bytes of an alphabet the last is named"),
+    slip("write-missing-at-0", &["write"], "a byte that an alphabet lacks is named as its first"),
+    slip("size-place", SHEETS, "a count that is too large has the place 0"),
+    slip("bracket-place", SHEETS, "a member that is wrong before a closer is found at the closer"),
+    slip("short-place", SHEETS, "a sheet that ends too soon is wrong at its last byte"),
+    slip("differs-place", SHEETS, "14 has the place of the letters, not of their count"),
+    slip("after-place", SHEETS, "15 has the sheet's length as its place"),
     slip("line-end", &["program"], "the last line has no LF"),
 ];
 

@@ -3,7 +3,8 @@
 use crate::broken;
 use crate::library::{ConvertCase, ReadCase, SearchCase, Way, WriteCase};
 use reference::engines::{search, Engine};
-use reference::products::{from_products, products_meet, to_products};
+use reference::letters::right;
+use reference::products::{from_products, is_product, products_meet, to_products};
 use reference::refusals::{check_letters, check_n, check_room, check_search, Refusal};
 use reference::report::{printed, report};
 use reference::sheet::{allowed, read, write, Room};
@@ -37,7 +38,12 @@ impl fmt::Debug for Outcome {
 }
 
 fn refused(refusal: Refusal) -> Outcome {
-    Outcome { answer: -i64::from(refusal.number), ..Outcome::default() }
+    Outcome { answer: refusal.code(), ..Outcome::default() }
+}
+
+/// The last index of a wrong letter or value, where the lowest is to be named.
+fn last_wrong(values: &[u32], right: impl Fn(u32) -> bool) -> usize {
+    values.iter().rposition(|v| !right(*v)).unwrap_or(0)
 }
 
 fn number(number: u32) -> Result<Outcome, Refusal> {
@@ -55,8 +61,42 @@ impl Expect {
         self.broken == Some(name)
     }
 
+    /// A refusal with the place that a slip of any call gives it.
+    fn placed(self, refusal: Refusal) -> Refusal {
+        let Refusal { number, place } = refusal;
+        match (self.broken, number) {
+            (Some("place"), _) if place > 0 => Refusal { place: place + 1, ..refusal },
+            (Some("place-4"), 4) | (Some("place-5"), 5) | (Some("place-7"), 7) | (Some("place-12"), 12) => {
+                Refusal { place: place + 1, ..refusal }
+            }
+            (Some("no-place"), _) => Refusal { place: 0, ..refusal },
+            _ => refusal,
+        }
+    }
+
+    /// The same for a refusal of the sheet's reader.
+    fn placed_in(self, sheet: &[u8], refusal: Refusal) -> Refusal {
+        let Refusal { number, place } = refusal;
+        let slipped = match (self.broken, number) {
+            (Some("size-place"), 2 | 3) => 0,
+            (Some("bracket-place"), 13) if sheet.get(place + 1) == Some(&b']') => place + 1,
+            (Some("short-place"), 12 | 13) if place == sheet.len() => place - 1,
+            (Some("differs-place"), 14) => place + sheet[place..].iter().take_while(|b| **b != b'\n').count() + 1,
+            (Some("after-place"), 15) => sheet.len(),
+            _ => return self.placed(refusal),
+        };
+        Refusal { place: slipped, ..refusal }
+    }
+
     pub fn search(self, engine: Engine, case: &SearchCase) -> Outcome {
-        let mut out = self.checked_search(engine, case).unwrap_or_else(refused);
+        let mut out = self.checked_search(engine, case).unwrap_or_else(|refusal| {
+            let place = match (self.broken, refusal.number) {
+                (Some("highest"), 4) => last_wrong(&case.pattern, |c| right(case.k, c)),
+                (Some("highest"), 5) => last_wrong(&case.text, |c| right(case.k, c)),
+                _ => refusal.place,
+            };
+            refused(self.placed(Refusal { place, ..refusal }))
+        });
         if out.answer < 0 {
             if self.is("refused-writes") {
                 out.numbers = vec![0; case.nwork.min(3)];
@@ -118,7 +158,14 @@ impl Expect {
         };
         let mut out = match converted {
             Ok(letters) => Outcome { answer: letters.len() as i64, letters, ..Outcome::default() },
-            Err(refusal) => refused(refusal),
+            Err(refusal) => {
+                let place = match (self.broken, refusal.number) {
+                    (Some("highest"), 5) => last_wrong(values, |c| right(*k, c)),
+                    (Some("highest-7"), 7) => last_wrong(values, |v| is_product(*k, v)),
+                    _ => refusal.place,
+                };
+                refused(self.placed(Refusal { place, ..refusal }))
+            }
         };
         for value in &mut out.letters {
             match (self.broken, &way) {
@@ -136,7 +183,8 @@ impl Expect {
     pub fn products_meet(self, k: u32, a: u32, b: u32) -> Outcome {
         match products_meet(k, a, b) {
             Ok(meet) => Outcome { answer: i64::from(meet && !(self.is("meet") && a == b)), ..Outcome::default() },
-            Err(refusal) => refused(refusal),
+            Err(refusal) if self.is("second-at-0") => refused(Refusal { place: 0, ..refusal }),
+            Err(refusal) => refused(self.placed(refusal)),
         }
     }
 
@@ -188,7 +236,10 @@ impl Expect {
             check_room(sheet.alphabet.len(), case.nalphabet)?;
             Ok(sheet)
         });
-        let Ok(sheet) = answer else { return refused(answer.unwrap_err()) };
+        let sheet = match answer {
+            Ok(sheet) => sheet,
+            Err(refusal) => return refused(self.placed_in(&case.sheet, refusal)),
+        };
         let sizes = [sheet.alphabet.len(), sheet.pattern.len(), sheet.text.len()];
         let mut numbers = sizes.map(|size| size as u64).to_vec();
         let mut more = sheet.text;
@@ -234,12 +285,28 @@ impl Expect {
                 }
                 Outcome { answer: bytes.len() as i64, bytes, ..Outcome::default() }
             }
-            Err(refusal) => refused(refusal),
+            Err(refusal) => {
+                let place = match (self.broken, refusal.number) {
+                    // The first of two equal bytes, where the second is to be named.
+                    (Some("write-first-of-two"), 12) => {
+                        let twice = alphabet.get(refusal.place).filter(|_| refusal.place < *k as usize);
+                        twice.and_then(|b| alphabet.iter().position(|a| a == b)).unwrap_or(refusal.place)
+                    }
+                    (Some("write-last-surplus"), 12) if refusal.place == *k as usize => alphabet.len() - 1,
+                    (Some("write-missing-at-0"), 12) if refusal.place == alphabet.len() => 0,
+                    _ => refusal.place,
+                };
+                refused(self.placed(Refusal { place, ..refusal }))
+            }
         }
     }
 
     pub fn report(self, sheet: &[u8], cap: usize) -> Outcome {
         let mut sheet = self.taken_for(sheet);
+        let refused = |refusal: Refusal| Outcome {
+            answer: if self.is("report-place") { refusal.code() } else { refusal.number_code() },
+            ..Outcome::default()
+        };
         if let Some(refusal) = self.slipped_read(&sheet) {
             return refused(refusal);
         }
@@ -272,14 +339,12 @@ impl Expect {
     pub fn printed(self, sheet: &[u8]) -> Outcome {
         let mut bytes = printed(sheet);
         let refusal = read(sheet, Room::AMPLE).err();
-        let at = |r: Refusal, place: usize| format!("refused {} at {place}\n", r.number).into_bytes();
-        match (self.broken, refusal) {
-            (Some("place"), Some(r)) if r.place > 0 => bytes = at(r, r.place + 1),
-            (Some("bracket-place"), Some(r)) if r.number == 13 && sheet.get(r.place + 1) == Some(&b']') => {
-                bytes = at(r, r.place + 1)
-            }
-            (Some("line-end"), _) => drop(bytes.pop()),
-            _ => {}
+        if let Some(refusal) = refusal {
+            let Refusal { number, place } = self.placed_in(sheet, refusal);
+            bytes = format!("refused {number} at {place}\n").into_bytes();
+        }
+        if self.is("line-end") {
+            bytes.pop();
         }
         Outcome { bytes, ..refusal.map_or_else(Outcome::default, refused) }
     }

@@ -16,7 +16,7 @@ mod sheets;
 
 use expected::{Expect, Outcome};
 use random::Random;
-use std::collections::BTreeMap;
+use std::collections::{BTreeMap, BTreeSet};
 use std::fmt::Debug;
 use std::process::ExitCode;
 use std::time::Instant;
@@ -27,8 +27,8 @@ pub struct Run {
     pub expect: Expect,
     scale: f64,
     cases: u64,
-    /// How often each answer was expected: 0 for a call that is taken, else the number of its refusal.
-    answers: BTreeMap<i64, u64>,
+    /// How often each answer was expected, and at which places: 0 for a call that is taken, else the number of its refusal.
+    answers: BTreeMap<i64, (u64, BTreeSet<i64>)>,
 }
 
 /// A difference, told with its case.
@@ -43,15 +43,19 @@ impl Run {
     /// Counts a case, and tells it whole if it differs.
     pub fn count(&mut self, call: &str, case: &dyn Debug, due: &Outcome, seen: Told) -> Told {
         self.cases += 1;
-        *self.answers.entry(-due.answer.min(0)).or_default() += 1;
+        let told = -due.answer.min(0);
+        let (cases, places) = self.answers.entry(told % 256).or_default();
+        *cases += 1;
+        places.insert(told / 256);
         seen.map_err(|difference| format!("{call}\n{case:?}\nexpected: {due:?}\n{difference}"))
     }
 
     /// The number of cases, and how many of them were taken and refused.
     fn summary(&self) -> String {
-        let kinds = self.answers.iter().map(|(number, cases)| match number {
-            0 => format!("taken {cases}"),
-            _ => format!("refused {number}: {cases}"),
+        let kinds = self.answers.iter().map(|(number, (cases, places))| match (number, places.len()) {
+            (0, _) => format!("taken {cases}"),
+            (_, 1) => format!("refused {number}: {cases}"),
+            (_, places) => format!("refused {number}: {cases} at {places} places"),
         });
         format!("{} cases agree ({})", self.cases, kinds.collect::<Vec<_>>().join(", "))
     }

@@ -1,4 +1,4 @@
-//! The program `search`, named by BREAKWARP_SEARCH: the one way from outside to see the place of a refusal.
+//! The program `search`, named by BREAKWARP_SEARCH: the report, or the number and the place of a refusal, as it prints them.
 
 use crate::cases::{damage, folder_sheets, odd_sheets, sheet};
 use crate::{Run, Told};

@@ -8,7 +8,7 @@ use reference::report::report;
 use reference::sheet::{bytes, Sheet};
 
 /// No report of an accepted sheet is longer, says c/breakwarp.h.
-const MAX_REPORT: usize = 41_216;
+const MAX_REPORT: usize = 40_000;
 
 /// A slice that is short by one, exact, longer, or has no room at all.
 fn room(run: &mut Run, needed: usize) -> usize {
