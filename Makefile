@@ -50,7 +50,8 @@ test:
 	bash .ci/run
 
 # The C engines are built by the kit's own clang, the same LLVM that builds the library. It has no headers of its own, so gcc reads them in.
-# How fast a short loop runs depends on where the linker puts it, so the means are taken at four places. The run goes to $(BENCH)/run.txt, and
+# The means are taken in four links. The archive's functions stand at lines of 64, so that the bytes put before it move nothing within a line
+# (docs/SPEED.md): the four show how far runs differ. The run goes to $(BENCH)/run.txt, and
 # the tables that are made of it and of the run before to $(BENCH)/tables.md.
 CC_K ?= $(firstword $(wildcard $(dir $(shell readlink -f `which rt`))../on/x86_64/toolchain/bin/clang) $(shell which clang) cc)
 BENCH = target/bench
@@ -64,7 +65,7 @@ bench: $(LIB)
 	  gcc -o $(BENCH)/bench-$$pad $(BENCH)/bench.o $(BENCH)/engines.o $(BENCH)/pad.o $(LIB) || exit 1; done
 	@if [ -f $(BENCH)/run.txt ]; then mv $(BENCH)/run.txt $(BENCH)/before.txt; fi
 	@{ $(BENCH)/bench-0 && \
-	  for pad in 16 32 48; do echo; echo "moved by $$pad bytes"; $(BENCH)/bench-$$pad means || exit 1; done && \
+	  for pad in 16 32 48; do echo; echo "moved by $$pad bytes, before alignment"; $(BENCH)/bench-$$pad means || exit 1; done && \
 	  $(BENCH)/bench-0 grow; } > $(BENCH)/running.txt
 	@mv $(BENCH)/running.txt $(BENCH)/run.txt
 	@cat $(BENCH)/run.txt

@@ -1,5 +1,5 @@
-/* Moves what is linked after it by PAD bytes. The archive asks for a multiple of 16, so four paddings show every place of its code in a line
- * of 64 bytes.
+/* Puts PAD bytes before what is linked after it. An archive whose functions ask for a multiple of 16 is moved by them; the one that `make lib` makes asks
+ * for 64 and is not, so that there four paddings are four runs of the same places.
  */
 #define TEXT(x) #x
 #define BYTES(x) TEXT(x)

@@ -38,13 +38,13 @@ def comma(n):
 def main():
     a, b = read(sys.argv[1]), read(sys.argv[2])
     works = list(dict.fromkeys(w for _, w, _ in a["times"]))
-    print("| engine | as linked | moved by 16 | by 32 | by 48 | worst of all, and where |\n|---|---|---|---|---|---|")
+    print("| engine | run 1 | run 2 | run 3 | run 4 | worst of all, and where |\n|---|---|---|---|---|---|")
     for e in ENGINES:
         cells, worst = [], (0.0, "")
         for place in ["0", "16", "32", "48"]:
             x, y = a["means"][e, place], b["means"][e, place]
             cells.append(f"{x[0]}, {x[1]} (again {y[0]}, {y[1]})")
-            where = lambda r: r[2] + (", as linked" if place == "0" else f", moved by {place}")
+            where = lambda r: r[2] + f", run {int(place) // 16 + 1}"
             worst = max(worst, (float(x[1]), where(x)), (float(y[1]), where(y)))
         print(f"| {e} | " + " | ".join(cells) + f" | {worst[0]:.2f}: {worst[1]} |")
     for e in ENGINES:
