@@ -6,7 +6,7 @@ I = $(DESTDIR)$(PREFIX)
 LIB = target/staticlib/libbreakwarp.a
 PROGRAM = target/bin/search
 SOURCES = crates.txt $(shell find crates -name '*.rt' -o -name '*.antt')
-CALLS = brute kmp bm sunday shiftand hybrid to_products from_products products_meet read_sheet write_sheet report
+CALLS = brute kmp bm sunday shiftand hybrid first to_products from_products products_meet read_sheet write_sheet report
 .PHONY: help search sheet program lib test bench fmt install uninstall clean
 .DELETE_ON_ERROR:
 
@@ -66,7 +66,8 @@ bench: $(LIB)
 	@if [ -f $(BENCH)/run.txt ]; then mv $(BENCH)/run.txt $(BENCH)/before.txt; fi
 	@{ $(BENCH)/bench-0 && \
 	  for pad in 16 32 48; do echo; echo "moved by $$pad bytes, before alignment"; $(BENCH)/bench-$$pad means || exit 1; done && \
-	  $(BENCH)/bench-0 grow; } > $(BENCH)/running.txt
+	  $(BENCH)/bench-0 grow && echo && \
+	  $(BENCH)/bench-0 first; } > $(BENCH)/running.txt
 	@mv $(BENCH)/running.txt $(BENCH)/run.txt
 	@cat $(BENCH)/run.txt
 	@python3 bench/tables.py $(BENCH)/run.txt `ls $(BENCH)/before.txt 2>/dev/null || echo $(BENCH)/run.txt` > $(BENCH)/tables.md

@@ -1,7 +1,8 @@
-/* Times the library's six searches beside the same engines in plain C.
+/* Times the library's six searches, and its first hit, beside the same in plain C.
  *   bench [PASSES]                     compare and time every workload
  *   bench means [PASSES]               the same, but print the mean and the worst of each engine alone
  *   bench grow [PASSES]                how cost grows with n and with m
+ *   bench first [PASSES]               the first hit beside brute and C where there is none, and beside C where it is at start 0
  *   bench once SIDE ENGINE WORKLOAD    one search and nothing else, for counting instructions; SIDE is lib or c
  * Every answer is compared first; a difference ends the program with 1.
  */
@@ -18,6 +19,7 @@
 #define N 65536
 #define MARK 0xdeadbeefu
 typedef int64_t search_fn(uint32_t, const uint32_t *, size_t, const uint32_t *, size_t, uint32_t *, size_t, uint64_t *, size_t);
+typedef int64_t first_fn(uint32_t, const uint32_t *, size_t, const uint32_t *, size_t, uint64_t *, size_t);
 static const char *const NAME[6] = {"brute", "kmp", "bm", "sunday", "shiftand", "hybrid"};
 static search_fn *const LIB[6] = {breakwarp_brute, breakwarp_kmp, breakwarp_bm, breakwarp_sunday, breakwarp_shiftand, breakwarp_hybrid};
 static search_fn *const C[6] = {c_brute, c_kmp, c_bm, c_sunday, c_shiftand, c_hybrid};
@@ -128,7 +130,7 @@ static void make(void) {
 
 /* ---- compare ---- */
 static uint32_t hits[N + 8], other[N + 8];
-static uint64_t counts[3], counted[3];
+static uint64_t counts[3], counted[3], found[5], other_found[5];
 static volatile int64_t sink;
 
 /* The stream cut into texts of n letters: total, list, what lies past the list, and counts. Adds up the counts of one side. */
@@ -147,19 +149,43 @@ static void compare(const struct work *w, size_t n, int e, uint64_t sum[3]) {
   }
 }
 
+/* The first hit in the same texts: answer, both numbers and what lies past them beside C; start and scan tests beside the library's brute,
+ * which on the text up to the end of the hit tests the same starts. Adds up the scan tests. */
+static void compare_first(const struct work *w, size_t n, uint64_t *sum) {
+  *sum = 0;
+  for (size_t at = 0; at + n <= N; at += n) {
+    const uint32_t *t = w->t + at;
+    for (size_t i = 0; i < COUNT(found); i++) found[i] = other_found[i] = MARK;
+    int64_t a = breakwarp_first(w->k, w->p, w->m, t, n, found, COUNT(found));
+    int64_t b = c_first(w->k, w->p, w->m, t, n, other_found, COUNT(found));
+    int64_t total = breakwarp_brute(w->k, w->p, w->m, t, n, hits, n, counts, 3);
+    int agree = a == b && a == (total > 0) && !memcmp(found, other_found, sizeof found) && (a == 0 || found[1] == hits[0]);
+    if (agree && a) breakwarp_brute(w->k, w->p, w->m, t, found[1] + w->m, hits, n, counts, 3);
+    if (!agree || found[0] != counts[0]) {
+      printf("first differs on %s, n = %zu, text at %zu: answer %lld, C %lld, brute's total %lld\n", w->name, n, at, (long long)a,
+             (long long)b, (long long)total);
+      exit(1);
+    }
+    *sum += found[0];
+  }
+}
+
 /* ---- time ---- */
 static double now(void) {
   struct timespec s;
   clock_gettime(CLOCK_MONOTONIC, &s);
   return (double)s.tv_sec * 1e9 + (double)s.tv_nsec;
 }
-struct cell { search_fn *f; const struct work *w; size_t n; size_t loops; double best; };
+struct cell { search_fn *f; first_fn *g; const struct work *w; size_t n; size_t loops; double best; }; /* f or g is called */
 static void all(const struct cell *c) {
+  if (c->g) {
+    for (size_t at = 0; at + c->n <= N; at += c->n) sink = c->g(c->w->k, c->w->p, c->w->m, c->w->t + at, c->n, found, 2);
+    return;
+  }
   for (size_t at = 0; at + c->n <= N; at += c->n)
     sink = c->f(c->w->k, c->w->p, c->w->m, c->w->t + at, c->n, hits, c->n, counts, 3);
 }
-static struct cell cell(search_fn *f, const struct work *w, size_t n) {
-  struct cell c = {f, w, n, 1, 1e99};
+static struct cell ready(struct cell c) { /* as many loops as take a tenth of a millisecond */
   all(&c);
   double a = now();
   all(&c);
@@ -167,6 +193,8 @@ static struct cell cell(search_fn *f, const struct work *w, size_t n) {
   if (d < 1e5) c.loops = (size_t)(1e5 / (d > 1 ? d : 1)) + 1;
   return c;
 }
+static struct cell cell(search_fn *f, const struct work *w, size_t n) { return ready((struct cell){f, 0, w, n, 1, 1e99}); }
+static struct cell first_cell(first_fn *g, const struct work *w, size_t n) { return ready((struct cell){0, g, w, n, 1, 1e99}); }
 /* The sides take turns within a pass and the passes lie far apart, so that a busy stretch of the machine hits all alike. */
 static void measure(struct cell *c, size_t cells, size_t passes) {
   for (size_t pass = 0; pass < passes; pass++)
@@ -260,6 +288,51 @@ static int grow(size_t passes) {
   return 0;
 }
 
+/* No hit: the pattern ends with a base letter that the text has not, so that brute lists nothing and first makes all its tests. Start 0: the
+ * pattern is what the text begins with, every doubt resolved, so that the check of the text is nearly all that is done. */
+static int first(size_t passes) {
+  static struct work none[WORKS], head[WORKS];
+  static struct cell c[WORKS * 8];
+  static uint64_t sum[2 * WORKS];
+  uint64_t tests;
+  size_t x = 0;
+  for (int w = 0; w < WORKS; w++) {
+    none[w] = head[w] = works[w];
+    none[w].p[none[w].m - 1] = 1u << works[w].k;
+    none[w].k++;
+    for (size_t j = 0; j < head[w].m; j++) head[w].p[j] = head[w].t[j] & (0u - head[w].t[j]);
+  }
+  for (int l = 0; l < 2; l++)
+    for (int w = 0; w < WORKS; w++) {
+      compare_first(&works[w], LENGTHS[l], &tests);
+      compare_first(&head[w], LENGTHS[l], &tests);
+      compare_first(&none[w], LENGTHS[l], &sum[l * WORKS + w]);
+      c[x++] = first_cell(breakwarp_first, &none[w], LENGTHS[l]);
+      c[x++] = cell(breakwarp_brute, &none[w], LENGTHS[l]);
+      c[x++] = first_cell(c_first, &none[w], LENGTHS[l]);
+    }
+  for (int w = 0; w < WORKS; w++) {
+    c[x++] = first_cell(breakwarp_first, &head[w], N);
+    c[x++] = first_cell(c_first, &head[w], N);
+  }
+  printf("compared: answer, numbers and the rest of the list agree with C, start and scan tests with brute, on all %d first hits\n\n", 6 * WORKS);
+  measure(c, x, passes);
+  printf("| workload, no hit | n | first ns a letter | brute ns a letter | ratio to brute | C ns a letter | ratio to C | tests a letter |\n"
+         "|---|---|---|---|---|---|---|---|\n");
+  for (int w = 0; w < WORKS; w++)
+    for (int l = 0; l < 2; l++) {
+      const struct cell *y = &c[(l * WORKS + w) * 3];
+      printf("| %s | %zu | %.3f | %.3f | %.2f | %.3f | %.2f | %.3f |\n", works[w].name, LENGTHS[l], y[0].best, y[1].best,
+             y[0].best / y[1].best, y[2].best, y[0].best / y[2].best, (double)sum[l * WORKS + w] / N);
+    }
+  printf("\n| workload, hit at start 0 | n | m | first ns a letter | C ns a letter | ratio to C |\n|---|---|---|---|---|---|\n");
+  for (int w = 0; w < WORKS; w++) {
+    const struct cell *y = &c[WORKS * 6 + 2 * w];
+    printf("| %s | %d | %zu | %.3f | %.3f | %.2f |\n", works[w].name, N, head[w].m, y[0].best, y[1].best, y[0].best / y[1].best);
+  }
+  return 0;
+}
+
 int main(int argc, char **argv) {
   cpu_set_t one;
   CPU_ZERO(&one);
@@ -276,6 +349,7 @@ int main(int argc, char **argv) {
     return 0;
   }
   if (argc > 1 && !strcmp(argv[1], "grow")) return grow(argc > 2 ? (size_t)atol(argv[2]) : 100);
+  if (argc > 1 && !strcmp(argv[1], "first")) return first(argc > 2 ? (size_t)atol(argv[2]) : 150);
   if (argc > 1 && !strcmp(argv[1], "means")) return table(argc > 2 ? (size_t)atol(argv[2]) : 60, 0);
   return table(argc > 1 ? (size_t)atol(argv[1]) : 150, 1);
 }

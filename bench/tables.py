@@ -14,7 +14,7 @@ def rows(path):
 
 
 def read(path):
-    r = {"times": {}, "plain": {}, "means": {}, "grow": {}}
+    r = {"times": {}, "plain": {}, "means": {}, "grow": {}, "none": {}, "head": {}}
     place = "0"
     for c in rows(path):
         if c[0] == "moved":
@@ -28,11 +28,33 @@ def read(path):
         elif len(c) == 11:
             key = (c[1], c[2], c[3])
             r["grow"].setdefault(c[0], []).append((key, c[4], c[6], c[10]))
+        elif len(c) == 8:
+            r["none"][c[0], c[1]] = c[2:]
+        elif len(c) == 6:
+            r["head"][c[0], c[2]] = c[3:]
     return r
 
 
 def comma(n):
     return f"{int(n):,}"
+
+
+def first(a, b):
+    # A run from before the first hit was timed has none of these.
+    again = lambda part, key, at: b[part][key][at] if key in b[part] else "-"
+    print("\n| workload, no hit | n | first | brute | ratio to brute | again | C | ratio to C | again | tests |\n|" + "---|" * 10)
+    for (w, n), c in a["none"].items():
+        print(f"| {w} | {comma(n)} | {c[0]} | {c[1]} | {c[2]} | {again('none', (w, n), 2)} "
+              f"| {c[3]} | {c[4]} | {again('none', (w, n), 4)} | {c[5]} |")
+    print("\n| workload, hit at start 0 | m | first | C | ratio to C | again |\n|" + "---|" * 6)
+    for (w, m), c in a["head"].items():
+        print(f"| {w} | {m} | {c[0]} | {c[1]} | {c[2]} | {again('head', (w, m), 2)} |")
+    for what, part, size, at in [("brute, no hit", "none", "n", 2), ("C, no hit", "none", "n", 4), ("C, hit at start 0", "head", "m", 2)]:
+        for run, r in [("", a), ("again ", b)]:
+            ratios = [(float(c[at]), f"{w}, {size} = {x}") for (w, x), c in r[part].items()]
+            if ratios:
+                mean, (worst, where) = sum(x for x, _ in ratios) / len(ratios), max(ratios)
+                print(f"\nfirst to {what}: {run}mean {mean:.2f}, worst {worst:.2f}: {where}")
 
 
 def main():
@@ -65,6 +87,7 @@ def main():
             print(f"\n| {'n' if i == 0 else 'm'} | " + " | ".join(ENGINES) + " |\n|" + "---|" * 7)
         cells = [f"{g[1]} ({g[2]}) {g[3]}" for g in (a["grow"][e][i] for e in ENGINES)]
         print(f"| {comma(n) if i < 7 else m} | " + " | ".join(cells) + " |")
+    first(a, b)
     pairs = [(float(a["times"][k][2]), float(b["times"][k][2])) for k in a["times"]]
     gaps = [abs(x - y) for x, y in pairs]
     print(f"\nratios differ by {sum(gaps) / len(gaps):.3f} on average, {max(gaps):.2f} at most; {len(gaps)} ratios")

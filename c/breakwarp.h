@@ -33,7 +33,7 @@
 extern "C" {
 #endif
 
-#define BREAKWARP_VERSION "1.0"
+#define BREAKWARP_VERSION "1.1"
 
 /* Limits. */
 #define BREAKWARP_MAX_K 32            /* base letters */
@@ -84,6 +84,16 @@ int64_t breakwarp_shiftand(uint32_t k, const uint32_t *pattern, size_t m, const 
                            size_t n, uint32_t *hits, size_t cap, uint64_t *work, size_t nwork);
 int64_t breakwarp_hybrid(uint32_t k, const uint32_t *pattern, size_t m, const uint32_t *text,
                          size_t n, uint32_t *hits, size_t cap, uint64_t *work, size_t nwork);
+
+/* The first hit alone, for a screen that shows whether a name stands anywhere. The starts are
+ * tested as breakwarp_brute tests them, and none after the first hit. Returns 1 if there is one:
+ * found[0] is the scan tests up to and including that start, found[1] the start, which is the head
+ * of the list of the six searches. Returns 0 if there is none: found[0] is all of brute's scan
+ * tests, and found[1] is not written. The whole text is checked first, so that a wrong letter
+ * after the hit is refused too. Refusals, in this order: 1, 2, 3, 4, 5, then 8 if fewer than two
+ * numbers are lent, whether there is a hit or not. */
+int64_t breakwarp_first(uint32_t k, const uint32_t *pattern, size_t m, const uint32_t *text,
+                        size_t n, uint64_t *found, size_t nfound);
 
 /* Letters to prime products: base letter b stands for the prime at b in 2, 3, 5, 7, 11, 13, 17,
  * 19, 23, and a letter for the product of its members' primes. Writes n products and returns n.

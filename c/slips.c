@@ -74,6 +74,24 @@ SEARCH(sunday)
 SEARCH(shiftand)
 SEARCH(hybrid)
 
+/* The text slips as if it were a call of its own, `first-text`; so do the scan tests of a hit, `first-scan`, which are
+ * not its last value, and what is written without a hit, `first-none`, since a hit's slip would be noticed before. */
+int64_t __real_breakwarp_first(uint32_t, const uint32_t *, size_t, const uint32_t *, size_t, uint64_t *, size_t);
+int64_t __wrap_breakwarp_first(uint32_t, const uint32_t *, size_t, const uint32_t *, size_t, uint64_t *, size_t);
+int64_t __wrap_breakwarp_first(uint32_t k, const uint32_t *pattern, size_t m, const uint32_t *text, size_t n,
+                               uint64_t *found, size_t nfound)
+{
+    int64_t answer = __real_breakwarp_first(k, pattern, m, text, n, found, nfound);
+    struct output nothing = {NULL, 1, 0, 0};
+    struct output scan = {found, sizeof *found, nfound, answer == 1 ? 1 : 0};
+    struct output out = {found, sizeof *found, nfound, answer < 0 ? 0 : answer == 0 ? 1 : 2};
+    slipped("first-text", answer, nothing, text, n * sizeof *text);
+    slipped("first-scan", answer, scan, NULL, 0);
+    if (answer == 0)
+        slipped("first-none", answer, out, NULL, 0);
+    return slipped("first", answer, out, pattern, m * sizeof *pattern);
+}
+
 #define CONVERSION(name)                                                                                               \
     int64_t __real_breakwarp_##name(uint32_t, const uint32_t *, size_t, uint32_t *, size_t);                           \
     int64_t __wrap_breakwarp_##name(uint32_t, const uint32_t *, size_t, uint32_t *, size_t);                           \

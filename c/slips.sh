@@ -8,7 +8,7 @@ work=$(mktemp -d)
 trap 'rm -rf "$work"' EXIT
 
 searches="brute kmp bm sunday shiftand hybrid"
-calls="$searches to_products from_products products_meet read_sheet write_sheet report"
+calls="$searches first to_products from_products products_meet read_sheet write_sheet report"
 wraps=
 for call in $calls; do wraps="$wraps -Wl,--wrap=breakwarp_$call"; done
 # shellcheck disable=SC2086
@@ -36,6 +36,9 @@ done
 for call in brute kmp bm sunday shiftand hybrid; do
     for slip in value before after tail refused input; do try "$call-work" "$slip"; done
 done
+try first-text input
+try first-scan value
+for slip in value tail; do try first-none "$slip"; done
 for call in read_sheet-pattern read_sheet-text read_sheet-sizes; do
     for slip in value before after tail refused; do try "$call" "$slip"; done
 done

@@ -18,6 +18,8 @@ static uint8_t bytes[BREAKWARP_MAX_REPORT], alphabet[32] = "ab";
 static void *nothing(void *a) { return a; }
 #define SEARCH(e) static void *e(void *a) { breakwarp_##e(2, pattern, 64, text, 65536, hits, 65536, work, 3); return a; }
 SEARCH(brute) SEARCH(kmp) SEARCH(bm) SEARCH(sunday) SEARCH(shiftand) SEARCH(hybrid)
+/* A hit at the first start, and none at all. */
+static void *first(void *a) { breakwarp_first(2, pattern, 64, text, 65536, work, 2); breakwarp_first(3, other, 64, text, 65536, work, 2); return a; }
 static void *to_products(void *a) { breakwarp_to_products(2, text, 65536, other, 65536); return a; }
 static void *from_products(void *a) { breakwarp_from_products(2, other, 65536, hits, 65536); return a; }
 static void *products_meet(void *a) { breakwarp_products_meet(9, 223092870, 223092870); return a; }
@@ -43,7 +45,7 @@ static size_t used(void *(*f)(void *)) {
 int main(void) {
   static const struct { const char *name; void *(*f)(void *); } calls[] = {
     {"brute", brute}, {"kmp", kmp}, {"bm", bm}, {"sunday", sunday}, {"shiftand", shiftand}, {"hybrid", hybrid},
-    {"to_products", to_products}, {"from_products", from_products}, {"products_meet", products_meet},
+    {"first", first}, {"to_products", to_products}, {"from_products", from_products}, {"products_meet", products_meet},
     {"read_sheet", read_sheet}, {"write_sheet", write_sheet}, {"report", report}};
   for (size_t i = 0; i < 64; i++) pattern[i] = i % 2 ? 1 : 3;
   for (size_t i = 0; i < 65536; i++) text[i] = i % 3 ? 1 : 3;

@@ -283,6 +283,189 @@ static void null_searches(void)
     }
 }
 
+/* ---- the first hit ---- */
+
+/* One call. The scan tests are written if it is not refused, the start if the answer is 1, and nothing else is. */
+static void try_first(uint32_t k, const uint32_t *p, size_t m, const uint32_t *t, size_t n, size_t nfound,
+                      int64_t answer, uint64_t scan, uint64_t start)
+{
+    const uint64_t due[] = {scan, start};
+    snprintf(about, sizeof about, "first, k %u, m %zu, n %zu, %zu numbers lent", (unsigned)k, m, n, nfound);
+    uint32_t *pattern = copy(p, m * sizeof *p);
+    uint32_t *text = copy(t, n * sizeof *t);
+    struct lent found = lend(nfound * sizeof *due);
+    errno = 77;
+    same("answer", breakwarp_first(k, pattern, m, text, n, slice(found), nfound), answer);
+    same("errno", errno, 77);
+    holds("found", found, due, answer < 0 ? 0 : answer == 0 ? sizeof due[0] : sizeof due);
+    unchanged("pattern", pattern, p, m * sizeof *p);
+    unchanged("text", text, t, n * sizeof *t);
+}
+
+/* Each with no room, too little, enough and more: too little is refused without a hit too, and after a wrong letter. */
+static void worked_firsts(void)
+{
+    static const uint32_t an[] = {1, 4}, na[] = {4, 1}, e_[] = {2}, all[] = {7}, eeean[] = {2, 2, 2, 1, 4};
+    static const uint32_t annan[] = {1, 4, 4, 1, 4}, aan[] = {1, 1, 4}, doubt[] = {1, 1, 5, 4}, ae[] = {3};
+    static const uint32_t behind[] = {1, 4, 8}, empty[] = {1, 0};
+    static const struct {
+        const uint32_t *p;
+        size_t m;
+        const uint32_t *t;
+        size_t n;
+        int64_t answer;
+        uint64_t scan, start;
+    } rows[] = {
+        {anna, 4, page, 12, 1, 4, 0},
+        {an, 2, eeean, 5, 1, 5, 3},
+        {na, 2, annan, 5, 1, 5, 2},
+        {aan, 3, doubt, 4, 1, 3, 0},
+        {ae, 1, annan + 1, 4, 1, 3, 2},
+        {all, 1, all, 1, 1, 1, 0},
+        {e_, 1, an, 1, 0, 1, 0},
+        {e_, 1, annan, 5, 0, 5, 0},
+        {an, 2, an, 1, 0, 0, 0},
+        {an, 2, NULL, 0, 0, 0, 0},
+        {an, 2, behind, 3, AT(BREAKWARP_REFUSED_TEXT, 2), 0, 0},
+        {e_, 1, empty, 2, AT(BREAKWARP_REFUSED_TEXT, 1), 0, 0},
+        {behind, 3, behind, 3, AT(BREAKWARP_REFUSED_PATTERN, 2), 0, 0},
+        {empty, 2, page, 12, AT(BREAKWARP_REFUSED_PATTERN, 1), 0, 0},
+        {an, 0, behind, 3, -BREAKWARP_REFUSED_M, 0, 0},
+    };
+    for (size_t r = 0; r < LENGTH(rows); r++)
+        for (size_t nfound = 0; nfound <= 5; nfound++) {
+            int short_of = rows[r].answer >= 0 && nfound < 2;
+            try_first(3, rows[r].p, rows[r].m, rows[r].t, rows[r].n, nfound,
+                      short_of ? -BREAKWARP_REFUSED_ROOM : rows[r].answer, rows[r].scan, rows[r].start);
+        }
+}
+
+static void first_refusals(void)
+{
+    static const uint32_t bad[] = {1, 2, 8}, empty[] = {1, 0}, twice[] = {1, 8, 0}, good[] = {1, 2, 4};
+    try_first(0, good, 1, good, 3, 2, -BREAKWARP_REFUSED_K, 0, 0);
+    try_first(33, good, 1, good, 3, 2, -BREAKWARP_REFUSED_K, 0, 0);
+    try_first(UINT32_MAX, NULL, 0, bad, 3, 0, -BREAKWARP_REFUSED_K, 0, 0);
+    try_first(3, NULL, 0, bad, 3, 1, -BREAKWARP_REFUSED_M, 0, 0);
+    try_first(3, empty, 2, bad, 3, 1, AT(BREAKWARP_REFUSED_PATTERN, 1), 0, 0);
+    try_first(3, twice, 3, good, 3, 2, AT(BREAKWARP_REFUSED_PATTERN, 1), 0, 0);
+    try_first(3, good, 1, twice, 3, 2, AT(BREAKWARP_REFUSED_TEXT, 1), 0, 0);
+    try_first(2, good, 1, good, 3, 2, AT(BREAKWARP_REFUSED_TEXT, 2), 0, 0);
+    /* One base letter and all 32, and a bit that each has not. */
+    static const uint32_t two[] = {2}, last[] = {UINT32_C(1) << 31};
+    try_first(1, good, 1, good, 1, 2, 1, 1, 0);
+    try_first(1, two, 1, good, 1, 2, -BREAKWARP_REFUSED_PATTERN, 0, 0);
+    try_first(1, good, 1, two, 1, 2, -BREAKWARP_REFUSED_TEXT, 0, 0);
+    try_first(32, last, 1, last, 1, 2, 1, 1, 0);
+    try_first(32, last, 1, good, 3, 2, 0, 3, 0);
+    try_first(31, good, 1, last, 1, 2, -BREAKWARP_REFUSED_TEXT, 0, 0);
+    snprintf(about, sizeof about, "first with null pointers");
+    uint64_t found[2] = {9, 9};
+    same("no text", breakwarp_first(3, good, 1, NULL, 0, found, 2), 0);
+    same("scan tests", (long long)found[0], 0);
+    same("no start", (long long)found[1], 9);
+    same("no room", breakwarp_first(3, good, 1, good, 1, NULL, 0), -BREAKWARP_REFUSED_ROOM);
+    same("no text, no room", breakwarp_first(3, good, 1, NULL, 0, NULL, 0), -BREAKWARP_REFUSED_ROOM);
+    same("no pattern", breakwarp_first(3, NULL, 0, NULL, 0, NULL, 0), -BREAKWARP_REFUSED_M);
+    same("no alphabet", breakwarp_first(0, NULL, 0, NULL, 0, NULL, 0), -BREAKWARP_REFUSED_K);
+}
+
+/* The largest text with its hit at either end and with none, the longest pattern, and one more of each. */
+static void first_limits(void)
+{
+    uint32_t *text = malloc((BREAKWARP_MAX_N + 1) * sizeof *text);
+    uint32_t met[BREAKWARP_MAX_M + 1], spoilt[BREAKWARP_MAX_M];
+    if (text == NULL) {
+        printf("c: no memory for the test\n");
+        exit(1);
+    }
+    for (size_t q = 0; q <= BREAKWARP_MAX_N; q++)
+        text[q] = UINT32_C(1) << 31;
+    for (size_t j = 0; j <= BREAKWARP_MAX_M; j++)
+        met[j] = UINT32_C(1) << 31;
+    memcpy(spoilt, met, sizeof spoilt);
+    spoilt[BREAKWARP_MAX_M - 1] = 1;
+    /* All 64 letters at each of the 65,473 starts: no call makes more tests. */
+    const uint64_t most = 64 * 65473;
+    try_first(32, met, 64, text, 65536, 2, 1, 64, 0);
+    try_first(32, met, 1, text, 65536, 2, 1, 1, 0);
+    try_first(32, spoilt, 64, text, 65536, 3, 0, most, 0);
+    try_first(32, spoilt + 63, 1, text, 65536, 3, 0, 65536, 0);
+    try_first(32, met, 64, text, 64, 2, 1, 64, 0);
+    try_first(32, met, 64, text, 63, 2, 0, 0, 0);
+    try_first(32, met, 64, text, 65536, 1, -BREAKWARP_REFUSED_ROOM, 0, 0);
+    try_first(32, spoilt, 64, text, 65536, 1, -BREAKWARP_REFUSED_ROOM, 0, 0);
+    try_first(32, met, 64, text, 65537, 2, -BREAKWARP_REFUSED_N, 0, 0);
+    try_first(32, met, 65, text, 65536, 2, -BREAKWARP_REFUSED_M, 0, 0);
+    try_first(32, met, 65, text, 65537, 0, -BREAKWARP_REFUSED_M, 0, 0);
+    try_first(31, met, 64, text, 65537, 0, -BREAKWARP_REFUSED_N, 0, 0);
+    try_first(31, met, 64, text, 65536, 0, -BREAKWARP_REFUSED_PATTERN, 0, 0);
+    try_first(33, met, 65, text, 65537, 0, -BREAKWARP_REFUSED_K, 0, 0);
+    /* The hit at the last start, which is the last test of all, and the same text without its last letter. */
+    text[BREAKWARP_MAX_N - 1] = 1;
+    try_first(32, spoilt, 64, text, 65536, 2, 1, most, 65472);
+    try_first(32, spoilt + 63, 1, text, 65536, 2, 1, 65536, 65535);
+    try_first(32, spoilt, 64, text, 65535, 2, 0, most - 64, 0);
+    /* The farthest places, the text's behind a hit at start 0. */
+    text[BREAKWARP_MAX_N - 1] = 0;
+    try_first(32, met, 64, text, 65536, 2, AT(BREAKWARP_REFUSED_TEXT, 65535), 0, 0);
+    try_first(32, met, 64, text, 65536, 0, AT(BREAKWARP_REFUSED_TEXT, 65535), 0, 0);
+    try_first(32, met, 64, text, 65535, 2, 1, 64, 0);
+    met[BREAKWARP_MAX_M - 1] = 0;
+    try_first(32, met, 64, text, 65536, 2, AT(BREAKWARP_REFUSED_PATTERN, 63), 0, 0);
+    free(text);
+}
+
+static uint64_t seed = 1;
+
+static uint32_t below(uint32_t bound)
+{
+    seed = seed * UINT64_C(6364136223846793005) + UINT64_C(1442695040888963407);
+    return (uint32_t)(seed >> 33) % bound;
+}
+
+static void draw(uint32_t *letters, size_t n, uint32_t k)
+{
+    for (size_t at = 0; at < n; at++) {
+        letters[at] = UINT32_C(1) << below(k);
+        if (below(4) == 0)
+            letters[at] |= UINT32_C(1) << below(k);
+    }
+}
+
+/* Beside brute on random pairs. Where there is a hit, brute on the text up to the end of it makes the tests that are
+ * due, and whatever comes after it changes nothing. */
+static void firsts_beside_brute(void)
+{
+    enum { PAIRS = 600, N = 60 };
+    size_t with = 0;
+    for (size_t pair = 0; pair < PAIRS; pair++) {
+        uint32_t k = 1 + below(pair % 4 == 0 ? 32 : 4), pattern[6], text[N], head[1];
+        size_t m = 1 + below(LENGTH(pattern)), n = below(N + 1), nfound = 2 + below(4);
+        uint64_t whole[3], upto[3];
+        draw(pattern, m, k);
+        draw(text, N, k);
+        snprintf(about, sizeof about, "first beside brute, pair %zu", pair);
+        int64_t total = breakwarp_brute(k, pattern, m, text, n, head, 1, whole, 3);
+        if (total == 0) {
+            try_first(k, pattern, m, text, n, nfound, 0, whole[0], 0);
+            continue;
+        }
+        with++;
+        size_t end = head[0] + m;
+        same("hits up to its end", breakwarp_brute(k, pattern, m, text, end, head, 1, upto, 3), 1);
+        try_first(k, pattern, m, text, n, nfound, 1, upto[0], head[0]);
+        try_first(k, pattern, m, text, end, nfound, 1, upto[0], head[0]);
+        draw(text + end, N - end, k);
+        try_first(k, pattern, m, text, end + below((uint32_t)(N - end + 1)), nfound, 1, upto[0], head[0]);
+        try_first(k, pattern, m, text, N, nfound, 1, upto[0], head[0]);
+        /* One letter less, and neither the hit nor its m tests are made. */
+        try_first(k, pattern, m, text, end - 1, nfound, 0, upto[0] - m, 0);
+    }
+    snprintf(about, sizeof about, "first beside brute");
+    same("pairs with a hit and without, a quarter at least", with >= PAIRS / 4 && with <= PAIRS - PAIRS / 4, 1);
+}
+
 /* ---- products ---- */
 
 typedef int64_t convert(uint32_t k, const uint32_t *from, size_t n, uint32_t *to, size_t cap);
@@ -622,6 +805,10 @@ int main(void)
     search_refusals();
     search_limits();
     null_searches();
+    worked_firsts();
+    first_refusals();
+    first_limits();
+    firsts_beside_brute();
     conversions();
     long_conversions();
     meetings();

@@ -29,6 +29,13 @@ int main()
         std::puts("c++: an in eeean is not found as it should be");
         return 1;
     }
+    std::array<std::uint64_t, 2> found{};
+    const auto there = breakwarp_first(3, pattern.data(), pattern.size(), text.data(), text.size(), found.data(),
+                                       found.size());
+    if (there != 1 || found != std::array<std::uint64_t, 2>{5, 3}) {
+        std::puts("c++: the first an in eeean is not found as it should be");
+        return 1;
+    }
     const std::array<std::uint32_t, 3> wrong{1, 2, 8};
     const auto refused = breakwarp_brute(3, pattern.data(), pattern.size(), wrong.data(), wrong.size(), hits.data(),
                                          hits.size(), work.data(), work.size());
@@ -37,6 +44,6 @@ int main()
         std::puts("c++: a wrong text letter is not refused at its place");
         return 1;
     }
-    std::puts("c++: 3 checks");
+    std::puts("c++: 4 checks");
     return 0;
 }

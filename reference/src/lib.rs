@@ -5,6 +5,7 @@
 //! prepared, packed or remembered to save time, and no code is shared with the library.
 
 pub mod engines;
+pub mod first;
 pub mod letters;
 pub mod products;
 pub mod refusals;

@@ -2,6 +2,7 @@
 //! library. A comparison with these calls says nothing about the library; it shows that the comparison itself works.
 
 use crate::engines::{search, Engine};
+use crate::first::first;
 use crate::products::{from_products, products_meet, to_products};
 use crate::refusals::{check_room, Refusal};
 use crate::report::report;
@@ -57,6 +58,26 @@ searches! {
     breakwarp_sunday Sunday
     breakwarp_shiftand ShiftAnd
     breakwarp_hybrid Hybrid
+}
+
+/// # Safety
+/// Every pointer is valid for its length, as c/breakwarp.h asks.
+#[no_mangle]
+pub unsafe extern "C" fn breakwarp_first(
+    k: u32,
+    pattern: *const u32,
+    m: usize,
+    text: *const u32,
+    n: usize,
+    found: *mut u64,
+    nfound: usize,
+) -> i64 {
+    let answered = first(k, lent(pattern, m), lent(text, n)).and_then(|first| {
+        check_room(2, nfound)?;
+        put(found, nfound, &first.numbers());
+        Ok(usize::from(first.start.is_some()))
+    });
+    answer(answered)
 }
 
 /// # Safety

@@ -1,6 +1,7 @@
 //! The worked examples of the rules, and the errors that look right.
 
 use reference::engines::{r, search, Engine, Found, Work, ENGINES};
+use reference::first::{first, First};
 use reference::letters::{hits, meets, single};
 use reference::products::{from_products, product, products_meet, to_products};
 use reference::refusals::{Refusal, MAX_N};
@@ -79,6 +80,31 @@ fn wrong_letters() {
         assert_eq!(search(engine, 3, &[1], &[1, 2, 8]), Err(Refusal { number: 5, place: 2 }));
         assert_eq!(search(engine, 3, &[1, 0], &[1, 2, 8]), Err(Refusal { number: 4, place: 1 }));
     }
+}
+
+#[test]
+fn the_first_hit() {
+    let rows = [
+        ("anna", "annann[ae]nann[an]", Some(0), 4),
+        ("an", "eeean", Some(3), 5),
+        ("na", "annan", Some(2), 5),
+        ("e", "a", None, 1),
+        ("an", "a", None, 0),
+        ("an", "", None, 0),
+        ("an", "an", Some(0), 2),
+    ];
+    for (pattern, text, start, scan) in rows {
+        assert_eq!(first(3, &aen(pattern), &aen(text)), Ok(First { start, scan }), "{pattern} in {text}");
+    }
+    // The hit at 0 is found with two tests, and the letter behind it is refused all the same.
+    assert_eq!(first(3, &[1, 4], &[1, 4, 8]), Err(Refusal { number: 5, place: 2 }));
+    assert_eq!(first(3, &[1, 8], &[1, 4, 8]), Err(Refusal { number: 4, place: 1 }));
+}
+
+#[test]
+fn c_is_given_the_start_only_if_there_is_one() {
+    assert_eq!(First { start: Some(3), scan: 5 }.numbers(), [5, 3]);
+    assert_eq!(First { start: None, scan: 1 }.numbers(), [1]);
 }
 
 #[test]

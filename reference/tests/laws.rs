@@ -2,7 +2,8 @@
 //! reference takes a short way round a definition.
 
 use reference::engines::{Engine, Work, ENGINES};
-use reference::letters::{hits, whole};
+use reference::first::first_hit;
+use reference::letters::{hits, meets, whole};
 use reference::products::{from_products, is_product, letter, product};
 use reference::sheet::{begins_letter, begins_letter_line, bytes, read, spelling, Room, Sheet};
 
@@ -102,6 +103,58 @@ fn bm_on_single_letters_follows_a_table() {
                 i += table(g).max(second);
             }
             assert_eq!(Engine::Bm.run(pattern, text).work.scan, scan, "{pattern:?} {text:?}");
+        }
+    }
+}
+
+/// What brute tests at one start: the pairs that meet, and the one that ends them, if there is one.
+fn tests_at(pattern: &[u32], text: &[u32], i: usize) -> u64 {
+    let met = (0..pattern.len()).take_while(|j| meets(pattern[*j], text[i + j])).count();
+    (met + 1).min(pattern.len()) as u64
+}
+
+#[test]
+fn the_first_hit_is_the_head_of_the_list() {
+    for pattern in up_to(&[1, 2, 3], 3).iter().filter(|p| !p.is_empty()) {
+        for text in &up_to(&[1, 2, 3], 6) {
+            assert_eq!(first_hit(pattern, text).start, hits(pattern, text).first().copied(), "{pattern:?} {text:?}");
+        }
+    }
+}
+
+/// The count is the sum over the starts up to the hit, and what brute makes from the next start on is the rest of
+/// brute's count. Without a hit it is all of brute's.
+#[test]
+fn the_first_hit_counts_the_starts_up_to_it() {
+    for pattern in up_to(&[1, 2, 3], 3).iter().filter(|p| !p.is_empty()) {
+        for text in &up_to(&[1, 2, 3], 6) {
+            let found = first_hit(pattern, text);
+            let brute = |text: &[u32]| Engine::Brute.run(pattern, text).work.scan;
+            match found.start.map(|s| s as usize) {
+                Some(s) => {
+                    let sum: u64 = (0..=s).map(|i| tests_at(pattern, text, i)).sum();
+                    assert_eq!(found.scan, sum, "{pattern:?} {text:?}");
+                    assert!(found.scan <= (pattern.len() * (s + 1)) as u64, "{pattern:?} {text:?}");
+                    assert_eq!(found.scan + brute(&text[s + 1..]), brute(text), "{pattern:?} {text:?}");
+                }
+                None => assert_eq!(found.scan, brute(text), "{pattern:?} {text:?}"),
+            }
+        }
+    }
+}
+
+/// A text cut at the end of its first hit, and then every tail there: none, shorter ones, longer ones, other ones.
+#[test]
+fn the_first_hit_does_not_see_the_tail() {
+    let tails = up_to(&[1, 2, 3], 3);
+    for pattern in up_to(&[1, 2, 3], 3).iter().filter(|p| !p.is_empty()) {
+        for text in &up_to(&[1, 2, 3], 5) {
+            let found = first_hit(pattern, text);
+            let Some(start) = found.start else { continue };
+            let cut = &text[..start as usize + pattern.len()];
+            for tail in &tails {
+                assert_eq!(first_hit(pattern, &[cut, tail].concat()), found, "{pattern:?} {text:?} {tail:?}");
+            }
         }
     }
 }

@@ -19,6 +19,7 @@ ghost use Rattle.sunday.specs.Sunday.{sundayRun};
 ghost use Rattle.shiftand.specs.ShiftAnd.{shiftandRun};
 ghost use Rattle.hybrid.specs.Hybrid.{hybridRun};
 ghost use Rattle.codes.specs.Called.{Called};
+ghost use Rattle.first.specs.Called.{FirstCalled};
 ghost use Rattle.products.specs.Calls.{ToCalled, FromCalled, MeetCalled};
 ghost use Rattle.sheet.specs.Called.{ReadCalled};
 ghost use Rattle.writer.specs.Writer.{WriteCalled};
@@ -100,6 +101,13 @@ pub extern "C" fn breakwarp_hybrid(
     ensures { λ r. do ⌜ Called hybridRun (← ⟦Letter::MAX_K⟧ .entry) (← ⟦Pattern::MAX_M⟧ .entry) (← ⟦Text::MAX_N⟧ .entry) k (now (p .entry)) (now (t .entry)) (now (hits .entry)) (now (work .entry)) r (now (hits .exit)) (now (work .exit)) ⌝ }
 {
     hybrid::c::called(k, p, t, hits, work)
+}
+
+#[no_mangle]
+pub extern "C" fn breakwarp_first(k: u32, p: &[u32], t: &[u32], found: &mut [u64]) -> i64
+    ensures { λ r. do ⌜ FirstCalled (← ⟦Letter::MAX_K⟧ .entry) (← ⟦Pattern::MAX_M⟧ .entry) (← ⟦Text::MAX_N⟧ .entry) k (now (p .entry)) (now (t .entry)) (now (found .entry)) r (now (found .exit)) ⌝ }
+{
+    first::c::called(k, p, t, found)
 }
 
 #[no_mangle]

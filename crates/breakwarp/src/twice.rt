@@ -1,6 +1,7 @@
 // Each call made twice, on equal inputs: equal answers, and equal lent memory.
 use crate::breakwarp_bm;
 use crate::breakwarp_brute;
+use crate::breakwarp_first;
 use crate::breakwarp_from_products;
 use crate::breakwarp_hybrid;
 use crate::breakwarp_kmp;
@@ -120,6 +121,15 @@ fn hybrid_twice(
 {
     let first = breakwarp_hybrid(k, p, t, a, w);
     let second = breakwarp_hybrid(k, p, t, b, v);
+    Codes { first, second }
+}
+
+fn first_twice(k: u32, p: &[u32], t: &[u32], a: &mut [u64], b: &mut [u64]) -> Codes
+    requires { ⌜ now a ≡ now b ⌝ }
+    ensures { λ r. ⌜ (r .first ≡ r .second) × (now (a .exit) ≡ now (b .exit)) ⌝ }
+{
+    let first = breakwarp_first(k, p, t, a);
+    let second = breakwarp_first(k, p, t, b);
     Codes { first, second }
 }
 

@@ -24,7 +24,7 @@ ghost use Rattle.inputs.specs.Answers.{Searched, scanOf};
 ghost use Rattle.brute.specs.Brute.{bruteTurn, bruteRun};
 
 // A turn at start i.
-fn step(p: &[u32], t: &[u32], i: usize) -> Turned
+pub fn step(p: &[u32], t: &[u32], i: usize) -> Turned
     requires { ⌜ i + length (now p) ≤ length (now t) ⌝ }
     ensures { λ r. ⌜ turnOf i r ≡ bruteTurn (now (p .entry)) (now (t .entry)) i ⌝ }
 {

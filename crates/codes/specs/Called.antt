@@ -1,9 +1,9 @@
--- A search called from C: the total or minus the refusal's number; the hits, and the three counts, in lent memory.
+-- A search called from C: the total, or minus the refusal's number and 256 times its place; the hits, and the three counts, in lent memory.
 --
 --   countsOf r         the scan tests, shift tests and word steps of a run
 --   Lists              the two lent lists
 --   Called             the promise of a search from C
---   shortOf c          what is answered where fewer than three counts are lent, and the checks say c
+--   shortOf c          what is answered where too few counts are lent, and the checks say c
 --   totalOf, answeredCode, answeredCounts   what C is told of a search's answer
 use Prim.Native.Nat.{ℕ}
 use mathlib.Core.List.{List, [], _∷_}

@@ -14,7 +14,7 @@ ghost use lib.ListN.{length};
 ghost use Rattle.inputs.specs.Refusals.{verdict};
 ghost use Rattle.codes.specs.Called.{shortOf, totalOf, answeredCode, answeredCounts};
 
-// What is refused where fewer than three counts are lent.
+// What is refused where too few counts are lent: 8, after all other checks.
 pub fn too_few(k: u32, p: &[u32], t: &[u32]) -> i64
     ensures { λ r. do ⌜ r ≡ shortOf (verdict (← ⟦Letter::MAX_K⟧ .entry) (← ⟦Pattern::MAX_M⟧ .entry) (← ⟦Text::MAX_N⟧ .entry) k (now (p .entry)) (now (t .entry))) ⌝ }
 {

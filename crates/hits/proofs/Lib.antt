@@ -8,3 +8,4 @@ pub mod ListLaws
 pub mod RunLaws
 pub mod LoopLaws
 pub mod Meaning
+pub mod HeadLaws

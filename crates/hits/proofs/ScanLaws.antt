@@ -1,5 +1,5 @@
 -- Laws of a scan from left to right, by the letter that it has come to. Assumes nothing.
-use mathlib.Core.Path.{_≡_, sym, _∙_}
+use mathlib.Core.Path.{_≡_, refl, sym, _∙_}
 use mathlib.Core.Bool.{Bool, true, false}
 use mathlib.Core.List.{List}
 use mathlib.Core.Logic.{⊎-elim}
@@ -9,7 +9,7 @@ use native.Mathlib.Numerals.{add-one}
 use native.Mathlib.Omega.{arith}
 use borrow.Author.Tests.{le-leb, lt-leb, le-ltb, lt-ltb, eqb-true, eqb-false}
 use lib.Dec.{leb, ltb, eqb}
-use lib.ListN.{length}
+use lib.ListN.{length, getD}
 use Rattle.letters.proofs.Truth.{bool-cases}
 use Rattle.hits.specs.Hits.{met, hitAt}
 use Rattle.hits.specs.Scans.{reach, tests}
@@ -123,3 +123,9 @@ whole-scan P T i j c e f =
     let q : j ≡ reach P T i 0 (length P) = rw z at e in
     let w : j + c ≡ tests P T i 0 (length P) = omega (arith, scan-tests P T i j q) in
     (q, w, omega (arith, tests-le P T i 0 (length P)))
+
+-- a scan looks only at the letters under it
+pub tests-same : (P T U : List ℕ) (i a f : ℕ) → ((j : ℕ) → a ≤ j → j < a + f → getD T (i + j) 0 ≡ getD U (i + j) 0) → tests P T i a f ≡ tests P U i a f
+unfolding tests
+tests-same P T U i a zero h = refl
+tests-same P T U i a (suc f) h = rw (h a (omega arith) (omega arith), tests-same P T U i (suc a) f (λ j l m. h j (omega arith) (omega arith)))

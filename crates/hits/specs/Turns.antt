@@ -1,7 +1,7 @@
--- An engine, over any state: its turn, and its run of turns until there is no more to do.
+-- An engine, over any state: its turn, its run of turns until there is no more to do, and that run ended after the first turn that finds.
 use Prim.Native.Nat.{ℕ, zero, suc, _+_}
 use mathlib.Core.Bool.{Bool, cond}
-use mathlib.Core.List.{List, [], _++_}
+use mathlib.Core.List.{List, [], _∷_, _++_}
 
 -- what one turn does: the hits that it finds, the state after it, and the work that it adds
 pub record Turn (S : Type 0) : Type 0 where
@@ -35,3 +35,14 @@ module _ {S : Type 0} (more : S → Bool) (turn : S → Turn S) where
   unfoldable pub run : ℕ → S → Run
   run zero s = idle
   run (suc f) s = cond (more s) (after (turn s) (run f (turn s .next))) idle
+
+-- nothing more where something was found, else this run
+abbrev pub unlessFound : List ℕ → Run → Run
+unlessFound [] r = r
+unlessFound (x ∷ xs) r = idle
+
+-- the same run, ended after the first turn that finds
+module _ {S : Type 0} (more : S → Bool) (turn : S → Turn S) where
+  unfoldable pub runFirst : ℕ → S → Run
+  runFirst zero s = idle
+  runFirst (suc f) s = cond (more s) (after (turn s) (unlessFound (turn s .found) (runFirst f (turn s .next)))) idle

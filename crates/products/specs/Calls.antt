@@ -1,4 +1,4 @@
--- The product calls from C: the length of the result, or whether two products meet; or minus the refusal's number.
+-- The product calls from C: the length of the result, or whether two products meet; or minus the refusal's number and 256 times its place.
 use Prim.Native.Nat.{ℕ}
 use mathlib.Core.List.{List, map}
 use lib.IntN.{ℤ}

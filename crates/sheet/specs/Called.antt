@@ -1,4 +1,4 @@
--- Reading a sheet from C: 0, or minus the refusal's number; the three strings, and their sizes, in lent memory.
+-- Reading a sheet from C: 0, or minus the refusal's number and 256 times its place; the three strings, and their sizes, in lent memory.
 --
 --   takenCheck   what the checks said of a sheet, by the reader's answer
 --   sizesOver    the sizes over the front of a lent list

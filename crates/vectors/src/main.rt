@@ -1,7 +1,8 @@
-// The examples that are run: both sides of every limit, by all six engines, and sheets whose refusal names a place. What is printed is held to
-// the file stdout.
+// The examples that are run: both sides of every limit, by all six engines and for the first hit alone, and sheets whose refusal names a place. What is
+// printed is held to the file stdout.
 use engines::engine::Engine;
 use engines::search;
+use first::First;
 use inputs::refusal::Answer;
 use inputs::refusal::Refusal;
 use inputs::refusal::Written;
@@ -115,6 +116,59 @@ fn rooms() {
     say_number(wide(four[3]), b"\n");
 }
 
+// The start and the scan tests, or none and the scan tests, or the refusal.
+fn say_first(a: First) {
+    match a {
+        First::Refused(r) => say_refusal(r),
+        First::Nowhere(scan) => {
+            words(b"none ");
+            say_number(scan, b"\n");
+        }
+        First::At(start, scan) => {
+            say_number(start as u64, b" ");
+            say_number(scan, b"\n");
+        }
+    }
+}
+
+fn first_of_k() {
+    let one = [1u32; 1];
+    let top = [2147483648u32; 1];
+    words(b"first, k 0, 1, 32, 33, and a bit above it\n");
+    say_first(first::search(0, &one, &one));
+    say_first(first::search(1, &one, &one));
+    say_first(first::search(32, &top, &top));
+    say_first(first::search(33, &one, &one));
+    say_first(first::search(31, &one, &top));
+}
+
+fn first_of_m() {
+    let text = [1u32; 65];
+    let longest = [1u32; 64];
+    let longer = [1u32; 65];
+    words(b"first, m 0, 1, 64, 65\n");
+    say_first(first::search(1, &longest[..0], &text));
+    say_first(first::search(1, &longest[..1], &text));
+    say_first(first::search(1, &longest, &text));
+    say_first(first::search(1, &longer, &text));
+}
+
+// No hit, and hits at either end, in the longest text; and one letter too many.
+fn first_of_n() {
+    let mut text = [1u32; 65536];
+    let longer = [1u32; 65537];
+    let mut ab = [1u32; 2];
+    ab[1] = 2;
+    words(b"first, n 0; 65536 with no hit, at the last start, at the first; 65537\n");
+    say_first(first::search(2, &ab, &text[..0]));
+    say_first(first::search(2, &ab, &text));
+    text[65535] = 2;
+    say_first(first::search(2, &ab, &text));
+    text[1] = 3;
+    say_first(first::search(2, &ab, &text));
+    say_first(first::search(2, &ab, &longer));
+}
+
 fn sheet(s: &[u8]) {
     let mut out = [0u8; Report::MAX_BYTES];
     let len = printed::of_front(s, s.len(), &mut out);
@@ -159,6 +213,9 @@ fn main() {
     sizes_of_n();
     letters_that_meet();
     rooms();
+    first_of_k();
+    first_of_m();
+    first_of_n();
     sheets();
     capacity();
 }

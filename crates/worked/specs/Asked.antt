@@ -9,6 +9,8 @@ use Rattle.inputs.specs.declared.refusal.Answer.{Answer}
 use Rattle.inputs.specs.declared.refusal.Written.{Written}
 use Rattle.engines.specs.declared.engine.Engine.{Engine}
 use Rattle.engines.specs.Engines.{runOf}
+use Rattle.first.specs.First.{firstRun, firstOf}
+use Rattle.first.specs.declared.First.{First}
 use Rattle.sheet.specs.Reader.{Outcome}
 use Rattle.sheet.specs.Answers.{checkOf}
 use Rattle.report.specs.Report.{reportFor, bytesIn}
@@ -17,9 +19,10 @@ use Rattle.products.specs.Conversions.{toVerdict, fromVerdict}
 use Rattle.products.specs.Meetings.{pairVerdict, productsMeet, meetingOf}
 use Rattle.products.specs.declared.meeting.Meeting.{Meeting}
 
--- a search by an engine for a pattern in a text over k base letters, with a list lent; letters to products and back, with a list lent; two products
+-- a search by an engine for a pattern in a text over k base letters, with a list lent; the first hit alone; letters to products and back, with a list lent; two products
 pub data Asked : Type 0 where
   askSearch : Engine → ℕ → List ℕ → List ℕ → List ℕ → Asked
+  askFirst : ℕ → List ℕ → List ℕ → Asked
   askProducts : ℕ → List ℕ → List ℕ → Asked
   askLetters : ℕ → List ℕ → List ℕ → Asked
   askMeeting : ℕ → ℕ → ℕ → Asked
@@ -28,6 +31,7 @@ pub data Asked : Type 0 where
 -- what is answered, and what the lent list holds afterwards
 pub data Handed : Type 0 where
   giveSearch : Answer → List ℕ → Handed
+  giveFirst : First → Handed
   giveList : Written → List ℕ → Handed
   giveMeeting : Meeting → Handed
 
@@ -37,6 +41,7 @@ giveOutcome o d = giveList (writtenOf (checkOf o) (bytesIn o)) (listOf (checkOf 
 
 abbrev pub given : Asked → Handed
 given (askSearch e k P T d) = giveSearch (answerOf (verdict 32 64 65536 k P T) (hits P T) (runOf e P T)) (listOf (verdict 32 64 65536 k P T) (hits P T) d)
+given (askFirst k P T) = giveFirst (firstOf (verdict 32 64 65536 k P T) (firstRun P T))
 given (askProducts k cs d) = giveList (writtenOf (toVerdict 32 9 65536 k cs (length d)) (map productOf cs)) (listOf (toVerdict 32 9 65536 k cs (length d)) (map productOf cs) d)
 given (askLetters k vs d) = giveList (writtenOf (fromVerdict 32 9 65536 k vs (length d)) (map letterOf vs)) (listOf (fromVerdict 32 9 65536 k vs (length d)) (map letterOf vs) d)
 given (askMeeting k a b) = giveMeeting (meetingOf (pairVerdict 32 9 k a b) (productsMeet a b))

@@ -8,8 +8,9 @@ use Rattle.inputs.specs.declared.refusal.Answer.the-variants.{Found, Refused}
 use Rattle.inputs.specs.declared.refusal.Written.the-variants.{Wrote, Refused as WriteRefused}
 use Rattle.engines.specs.declared.engine.Engine.{Engine}
 use Rattle.engines.specs.declared.engine.Engine.the-variants.{Brute, Kmp, Bm, Sunday, ShiftAnd, Hybrid}
+use Rattle.first.specs.declared.First.the-variants.{At, Nowhere, Refused as FirstRefused}
 use Rattle.products.specs.declared.meeting.Meeting.the-variants.{Known}
-use Rattle.worked.specs.Asked.{Asked, askSearch, askReport, askProducts, askLetters, askMeeting, Handed, giveSearch, giveList, giveMeeting}
+use Rattle.worked.specs.Asked.{Asked, askSearch, askFirst, askReport, askProducts, askLetters, askMeeting, Handed, giveSearch, giveFirst, giveList, giveMeeting}
 
 pub record Example : Type 0 where
   pub asked : Asked
@@ -25,6 +26,13 @@ finds e P T total scan shift steps left =
 
 abbrev refuses : Engine → List ℕ → List ℕ → ℕ → ℕ → Example
 refuses e P T number place = record { asked = askSearch e 3 P T blank; due = giveSearch (Refused (record { number = number; place = place })) blank }
+
+-- the first hit: its start and the scan tests; or none, and the scan tests
+abbrev findsFirst : List ℕ → List ℕ → ℕ → ℕ → Example
+findsFirst P T start scan = record { asked = askFirst 3 P T; due = giveFirst (At start scan) }
+
+abbrev findsNone : List ℕ → List ℕ → ℕ → Example
+findsNone P T scan = record { asked = askFirst 3 P T; due = giveFirst (Nowhere scan) }
 
 -- a value that is no product for k = 3
 abbrev noProduct : ℕ → Example
@@ -110,6 +118,16 @@ examples =
     -- text letter 8 at index 2; bad letters in both
     ∷ refuses Brute (1 ∷ []) (1 ∷ 1 ∷ 8 ∷ []) 5 2
     ∷ refuses Brute (8 ∷ []) (1 ∷ 1 ∷ 8 ∷ []) 4 0
+    -- the first hit: anna in the worked sheet's text, an in eeean, na in annan
+    ∷ findsFirst anna page 0 4
+    ∷ findsFirst an (2 ∷ 2 ∷ 2 ∷ 1 ∷ 4 ∷ []) 3 5
+    ∷ findsFirst (4 ∷ 1 ∷ []) (1 ∷ 4 ∷ 4 ∷ 1 ∷ 4 ∷ []) 2 5
+    -- none: e in a, an in a and in the empty text
+    ∷ findsNone (2 ∷ []) (1 ∷ []) 1
+    ∷ findsNone an (1 ∷ []) 0
+    ∷ findsNone an [] 0
+    -- a wrong letter behind the hit
+    ∷ record { asked = askFirst 3 an (1 ∷ 4 ∷ 8 ∷ []); due = giveFirst (FirstRefused (record { number = 5; place = 2 })) }
     -- products: [ae] 6, n 5, * 30, and back
     ∷ record { asked = askProducts 3 (3 ∷ 4 ∷ 7 ∷ []) blank; due = giveList (Wrote 3) (6 ∷ 5 ∷ 30 ∷ 9 ∷ []) }
     ∷ record { asked = askLetters 3 (6 ∷ 5 ∷ 30 ∷ []) blank; due = giveList (Wrote 3) (3 ∷ 4 ∷ 7 ∷ 9 ∷ []) }

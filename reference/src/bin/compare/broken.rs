@@ -2,6 +2,7 @@
 //! `--broken NAME` asks for it.
 
 use reference::engines::{Engine, Found};
+use reference::first::{first_hit, First};
 use reference::letters::{meets, single};
 
 /// A slip, the groups that must notice it, and what it does to the expectation.
@@ -17,13 +18,14 @@ const fn slip(name: &'static str, groups: &'static [&'static str], what: &'stati
 
 const SEARCHES: &[&str] = &["exhaustive", "random", "limits"];
 const SHEETS: &[&str] = &["read", "program"];
-const PLACES: &[&str] = &["refusals", "products", "read", "write", "program"];
+const FIRST: &[&str] = &["first"];
+const PLACES: &[&str] = &["refusals", "first", "products", "read", "write", "program"];
 
 pub const SLIPS: &[Slip] = &[
     slip("total", SEARCHES, "the total is one too high where there are hits"),
     slip("last-start", SEARCHES, "the list lacks the last start that it holds"),
     slip("tail", SEARCHES, "the cell after the last hit is expected to be written"),
-    slip("scan", SEARCHES, "scan tests are one too high where there are any"),
+    slip("scan", &["exhaustive", "random", "limits", "first"], "scan tests are one too high where there are any"),
     slip("shift", SEARCHES, "shift tests are one too high where there are any"),
     slip("words", SEARCHES, "word steps are one too high where there are any"),
     slip("fourth-count", &["random"], "a fourth count is written where four are lent"),
@@ -34,13 +36,29 @@ pub const SLIPS: &[Slip] = &[
     slip("bm-met-only", &["exhaustive", "random"], "BM asks only the letters that met to be single, not all of P"),
     slip("lowest-member", SEARCHES, "R looks at the lowest member of an unsure letter alone"),
     slip("hybrid-one-on", SEARCHES, "Hybrid goes one on after a failure, not as Sunday does"),
-    slip("k-32", &["limits", "refusals"], "an alphabet of 32 is refused"),
-    slip("m-64", &["limits", "refusals"], "a pattern of 64 letters is refused"),
-    slip("n-65536", &["limits"], "a text of 65,536 letters is refused"),
-    slip("order-23", &["refusals"], "3 is checked before 2"),
-    slip("order-45", &["refusals"], "5 is checked before 4"),
+    slip("k-32", &["limits", "refusals", "first"], "an alphabet of 32 is refused"),
+    slip("m-64", &["limits", "refusals", "first"], "a pattern of 64 letters is refused"),
+    slip("n-65536", &["limits", "first"], "a text of 65,536 letters is refused"),
+    slip("order-23", &["refusals", "first"], "3 is checked before 2"),
+    slip("order-45", &["refusals", "first"], "5 is checked before 4"),
     slip("work-first", &["refusals"], "the 8 for the counts comes before 4 and 5"),
-    slip("refused-writes", &["refusals"], "a refused search writes its counts as 0"),
+    slip("refused-writes", &["refusals", "first"], "a refused search writes its counts as 0"),
+    slip("first-goes-on", FIRST, "the starts after the first hit are tested and counted too"),
+    slip("first-last", FIRST, "the last hit is named, with the tests of all starts"),
+    slip("first-count", FIRST, "the tests at the hit itself are left out"),
+    slip("first-start", FIRST, "the start is one too high"),
+    slip("first-tail-seen", FIRST, "one start after the hit is tested and counted too, where the text reaches so far"),
+    slip("first-right-to-left", FIRST, "each start is tested right to left"),
+    slip("first-beyond", FIRST, "starts beyond n - m are tested and counted too, as far as the text goes"),
+    slip("first-short", FIRST, "the last start is not tested"),
+    slip("first-total", FIRST, "the total of hits is answered, not 1"),
+    slip("first-none-writes", FIRST, "a start is written though there is none"),
+    slip("first-third", FIRST, "a third number is written after a hit where three are lent"),
+    slip("first-behind", FIRST, "a wrong letter behind the hit is not refused"),
+    slip("first-room-early", FIRST, "8 comes before 4 and 5"),
+    slip("first-room-hit", FIRST, "8 is asked only where there is a hit"),
+    slip("first-room-1", FIRST, "one number lent is enough"),
+    slip("first-room-3", FIRST, "three numbers must be lent, as for the counts of a search"),
     slip("product", &["products"], "the product of all nine letters is one too high"),
     slip("letter", &["products"], "the product of all nine primes gives a letter without its last member"),
     slip("one", &["products"], "1 is taken for a product"),
@@ -68,11 +86,11 @@ pub const SLIPS: &[Slip] = &[
     slip("report-place", &["reports"], "a refused report tells its place"),
     slip("place", PLACES, "every place but 0 is one too high"),
     slip("no-place", PLACES, "every place is 0"),
-    slip("place-4", &["refusals", "write"], "the place of a 4 is one too high"),
-    slip("place-5", &["refusals", "products", "write"], "the place of a 5 is one too high"),
+    slip("place-4", &["refusals", "first", "write"], "the place of a 4 is one too high"),
+    slip("place-5", &["refusals", "first", "products", "write"], "the place of a 5 is one too high"),
     slip("place-7", &["products"], "the place of a 7 is one too high"),
     slip("place-12", &["read", "write", "program"], "the place of a 12 is one too high"),
-    slip("highest", &["refusals", "products"], "the highest index of a wrong letter is named, not the lowest"),
+    slip("highest", &["refusals", "first", "products"], "the highest index of a wrong letter is named, not the lowest"),
     slip("highest-7", &["products"], "the highest index of a value that is no product is named"),
     slip("second-at-0", &["products"], "the second of two products is named as the first"),
     slip("write-first-of-two", &["write"], "of two equal bytes of an alphabet the first is named"),
@@ -222,6 +240,49 @@ pub fn run(name: Option<&str>, engine: Engine, p: &[u32], t: &[u32]) -> Found {
     }
 }
 
+fn slipped_first(name: &str, p: &[u32], t: &[u32]) -> First {
+    let (m, n) = (p.len(), t.len());
+    let starts = match name {
+        "first-beyond" => n,
+        "first-short" => n.saturating_sub(m),
+        _ => (n + 1).saturating_sub(m),
+    };
+    let mut found = First::default();
+    for i in 0..starts {
+        let done = found.start.is_some_and(|start| match name {
+            "first-goes-on" | "first-last" => false,
+            "first-tail-seen" => i > start as usize + 1,
+            _ => true,
+        });
+        if done {
+            break;
+        }
+        let mut pairs: Vec<(u32, u32)> = p.iter().copied().zip(t[i..].iter().copied()).collect();
+        if name == "first-right-to-left" {
+            pairs.reverse();
+        }
+        let before = found.scan;
+        if !tried(&mut found.scan, pairs.into_iter()) || i + m > n {
+            continue;
+        }
+        if found.start.is_none() || name == "first-last" {
+            found.start = Some(i as u32);
+        }
+        if name == "first-count" {
+            found.scan = before;
+        }
+    }
+    found
+}
+
+/// The run for the first hit with the slip that was asked for. A slip that is not in the run leaves it right.
+pub fn first(name: Option<&str>, p: &[u32], t: &[u32]) -> First {
+    match name {
+        Some(name) if name.starts_with("first-") => slipped_first(name, p, t),
+        _ => first_hit(p, t),
+    }
+}
+
 /// Without a slip these runs are the reference's, so that what is noticed is the slip and nothing else.
 #[test]
 fn without_a_slip_the_runs_are_right() {
@@ -232,6 +293,7 @@ fn without_a_slip_the_runs_are_right() {
             assert_eq!(bm("", p, t), Engine::Bm.run(p, t));
             assert_eq!(sunday("", p, t), Engine::Sunday.run(p, t));
             assert_eq!(hybrid("", p, t), Engine::Hybrid.run(p, t));
+            assert_eq!(slipped_first("", p, t), first_hit(p, t));
         }
     }
 }

@@ -1,17 +1,18 @@
 //! What is expected of each call: its answer and every cell that it writes, from the reference.
 
 use crate::broken;
-use crate::library::{ConvertCase, ReadCase, SearchCase, Way, WriteCase};
+use crate::library::{ConvertCase, FirstCase, ReadCase, SearchCase, Way, WriteCase};
 use reference::engines::{search, Engine};
-use reference::letters::right;
+use reference::first::{first, first_hit};
+use reference::letters::{hits, right};
 use reference::products::{from_products, is_product, products_meet, to_products};
-use reference::refusals::{check_letters, check_n, check_room, check_search, Refusal};
+use reference::refusals::{check_k, check_letters, check_m, check_n, check_room, check_search, refuse, Refusal};
 use reference::report::{printed, report};
 use reference::sheet::{allowed, read, write, Room};
 use std::fmt;
 
 /// The answer, and what is written at the front of each lent slice; all else keeps its content.
-#[derive(Clone, Default)]
+#[derive(Clone, Default, PartialEq, Eq)]
 pub struct Outcome {
     pub answer: i64,
     pub bytes: Vec<u8>,
@@ -46,8 +47,11 @@ fn last_wrong(values: &[u32], right: impl Fn(u32) -> bool) -> usize {
     values.iter().rposition(|v| !right(*v)).unwrap_or(0)
 }
 
-fn number(number: u32) -> Result<Outcome, Refusal> {
-    Err(Refusal { number, place: 0 })
+/// The checks of a search that come before its letters: 1, 2, 3.
+fn check_sizes(k: u32, pattern: &[u32], text: &[u32]) -> Result<(), Refusal> {
+    check_k(k)?;
+    check_m(pattern.len())?;
+    check_n(text.len())
 }
 
 /// The expectation, with the slip that was asked for, if any.
@@ -88,15 +92,34 @@ impl Expect {
         Refusal { place: slipped, ..refusal }
     }
 
+    /// What a search checks, with a slip in a limit or in the order; the checks themselves are the reference's own.
+    fn check(self, k: u32, pattern: &[u32], text: &[u32]) -> Result<(), Refusal> {
+        let (m, n) = (pattern.len(), text.len());
+        let sized = check_sizes(k, pattern, text).is_ok();
+        match self.broken {
+            Some("k-32") if k == 32 => return refuse(1, 0),
+            Some("m-64") if check_k(k).is_ok() && m == 64 => return refuse(2, 0),
+            Some("n-65536") if sized && n == 65_536 => return refuse(3, 0),
+            Some("order-23") if check_k(k).is_ok() => check_n(n)?,
+            Some("order-45") if sized => check_letters(5, k, text)?,
+            _ => {}
+        }
+        check_search(k, pattern, text)
+    }
+
+    /// A refused search, with the place that a slip gives it.
+    fn refused_search(self, k: u32, pattern: &[u32], text: &[u32], refusal: Refusal) -> Outcome {
+        let place = match (self.broken, refusal.number) {
+            (Some("highest"), 4) => last_wrong(pattern, |c| right(k, c)),
+            (Some("highest"), 5) => last_wrong(text, |c| right(k, c)),
+            _ => refusal.place,
+        };
+        refused(self.placed(Refusal { place, ..refusal }))
+    }
+
     pub fn search(self, engine: Engine, case: &SearchCase) -> Outcome {
-        let mut out = self.checked_search(engine, case).unwrap_or_else(|refusal| {
-            let place = match (self.broken, refusal.number) {
-                (Some("highest"), 4) => last_wrong(&case.pattern, |c| right(case.k, c)),
-                (Some("highest"), 5) => last_wrong(&case.text, |c| right(case.k, c)),
-                _ => refusal.place,
-            };
-            refused(self.placed(Refusal { place, ..refusal }))
-        });
+        let checked = self.checked_search(engine, case);
+        let mut out = checked.unwrap_or_else(|r| self.refused_search(case.k, &case.pattern, &case.text, r));
         if out.answer < 0 {
             if self.is("refused-writes") {
                 out.numbers = vec![0; case.nwork.min(3)];
@@ -120,17 +143,11 @@ impl Expect {
 
     fn checked_search(self, engine: Engine, case: &SearchCase) -> Result<Outcome, Refusal> {
         let SearchCase { k, pattern, text, nwork, .. } = case;
-        match self.broken {
-            Some("k-32") if *k == 32 => return number(1),
-            Some("m-64") if (1..=32).contains(k) && pattern.len() == 64 => return number(2),
-            Some("n-65536") if text.len() == 65_536 => return number(3),
-            Some("order-23") if (1..=32).contains(k) => check_n(text.len())?,
-            Some("order-45") if pattern.len() <= 64 && text.len() <= 65_536 => check_letters(5, *k, text)?,
-            Some("work-first") if pattern.len() <= 64 && text.len() <= 65_536 => check_room(3, *nwork)?,
-            _ => {}
+        if self.is("work-first") {
+            check_sizes(*k, pattern, text)?;
+            check_room(3, *nwork)?;
         }
-        // The checks are the reference's own; the run has the slip.
-        check_search(*k, pattern, text)?;
+        self.check(*k, pattern, text)?;
         check_room(3, *nwork)?;
         let found = match self.broken {
             None => search(engine, *k, pattern, text)?,
@@ -138,6 +155,54 @@ impl Expect {
         };
         let numbers = vec![found.work.scan, found.work.shift, found.work.words];
         Ok(Outcome { answer: found.hits.len() as i64, letters: found.hits, numbers, ..Outcome::default() })
+    }
+
+    pub fn first(self, case: &FirstCase) -> Outcome {
+        let checked = self.checked_first(case);
+        let mut out = checked.unwrap_or_else(|r| self.refused_search(case.k, &case.pattern, &case.text, r));
+        if out.answer < 0 {
+            if self.is("refused-writes") {
+                out.numbers = vec![0; case.nfound.min(2)];
+            }
+            return out;
+        }
+        let is_hit = out.answer == 1;
+        match self.broken {
+            Some("scan") if out.numbers[0] > 0 => out.numbers[0] += 1,
+            Some("first-start") if is_hit => out.numbers[1] += 1,
+            Some("first-total") if is_hit => out.answer = hits(&case.pattern, &case.text).len() as i64,
+            Some("first-third") if is_hit && case.nfound > 2 => out.numbers.push(0),
+            Some("first-none-writes") if !is_hit => out.numbers.push(0),
+            _ => {}
+        }
+        out
+    }
+
+    fn checked_first(self, case: &FirstCase) -> Result<Outcome, Refusal> {
+        let FirstCase { k, pattern, text, nfound } = case;
+        if self.is("first-room-early") {
+            check_sizes(*k, pattern, text)?;
+            check_room(2, *nfound)?;
+        }
+        let end_of_hit = || first_hit(pattern, text).start.map_or(text.len(), |start| start as usize + pattern.len());
+        match self.check(*k, pattern, text) {
+            Err(Refusal { number: 5, place }) if self.is("first-behind") && place >= end_of_hit() => {}
+            checked => checked?,
+        }
+        let found = match self.broken {
+            None => first(*k, pattern, text)?,
+            Some(_) => broken::first(self.broken, pattern, text),
+        };
+        let needed = match self.broken {
+            Some("first-room-hit") if found.start.is_none() => 0,
+            Some("first-room-1") => 1,
+            Some("first-room-3") => 3,
+            _ => 2,
+        };
+        check_room(needed, *nfound)?;
+        let mut numbers = found.numbers();
+        numbers.truncate(*nfound);
+        Ok(Outcome { answer: i64::from(found.start.is_some()), numbers, ..Outcome::default() })
     }
 
     pub fn convert(self, case: &ConvertCase) -> Outcome {

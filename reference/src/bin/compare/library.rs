@@ -20,6 +20,15 @@ macro_rules! declare_searches {
 declare_searches! { breakwarp_brute breakwarp_kmp breakwarp_bm breakwarp_sunday breakwarp_shiftand breakwarp_hybrid }
 
 extern "C" {
+    fn breakwarp_first(
+        k: u32,
+        pattern: *const u32,
+        m: usize,
+        text: *const u32,
+        n: usize,
+        found: *mut u64,
+        nfound: usize,
+    ) -> i64;
     fn breakwarp_to_products(k: u32, letters: *const u32, n: usize, products: *mut u32, cap: usize) -> i64;
     fn breakwarp_from_products(k: u32, products: *const u32, n: usize, letters: *mut u32, cap: usize) -> i64;
     fn breakwarp_products_meet(k: u32, a: u32, b: u32) -> i64;
@@ -162,6 +171,24 @@ pub fn search(engine: Engine, case: &SearchCase, due: &Outcome) -> Result<(), St
     let (h, w) = (hits.pointer(null), work.pointer(null));
     let answer = unsafe { entry(engine)(*k, p, pattern.len(), t, text.len(), h, *cap, w, *nwork) };
     settle(due, answer, &[hits.differs("hits", &due.letters), work.differs("work", &due.numbers)])
+}
+
+#[derive(Clone, Debug)]
+pub struct FirstCase {
+    pub k: u32,
+    pub pattern: Vec<u32>,
+    pub text: Vec<u32>,
+    pub nfound: usize,
+}
+
+pub fn first(case: &FirstCase, due: &Outcome) -> Result<(), String> {
+    let FirstCase { k, pattern, text, nfound } = case;
+    let null = null(pattern.len() + text.len());
+    let mut found = Lent::<u64>::new(*nfound);
+    let (p, t) = (read_from(pattern, null), read_from(text, null));
+    let f = found.pointer(null);
+    let answer = unsafe { breakwarp_first(*k, p, pattern.len(), t, text.len(), f, *nfound) };
+    settle(due, answer, &[found.differs("found", &due.numbers)])
 }
 
 /// Which way a conversion goes.

@@ -7,6 +7,7 @@
 mod broken;
 mod cases;
 mod expected;
+mod first;
 mod library;
 mod products;
 mod program;
@@ -66,11 +67,12 @@ struct Group {
     run: fn(&mut Run) -> Told,
 }
 
-const GROUPS: [Group; 9] = [
+const GROUPS: [Group; 10] = [
     Group { name: "exhaustive", run: searches::exhaustive },
     Group { name: "random", run: searches::random },
     Group { name: "limits", run: searches::limits },
     Group { name: "refusals", run: searches::refusals },
+    Group { name: "first", run: first::first },
     Group { name: "products", run: products::products },
     Group { name: "read", run: sheets::read },
     Group { name: "write", run: sheets::write },

@@ -1,4 +1,4 @@
-//! The six searches.
+//! The six searches, and the strings on which the first hit is asked for too.
 
 use crate::cases::{pair, strings_up_to};
 use crate::library::{self, SearchCase};
@@ -16,24 +16,29 @@ fn each(run: &mut Run, case: &SearchCase) -> Told {
     ENGINES.iter().try_for_each(|engine| one(run, *engine, case))
 }
 
-/// Every pattern with every text over the letters of k base letters, up to the given lengths.
-fn universe(run: &mut Run, k: u32, m: usize, n: usize) -> Told {
-    let letters: Vec<u32> = (1..=whole(k)).collect();
-    let texts = strings_up_to(&letters, n);
-    for pattern in strings_up_to(&letters, m).into_iter().skip(1) {
-        for (index, text) in texts.iter().enumerate() {
-            let cap = index % (text.len() + 3);
-            each(run, &SearchCase { k, pattern: pattern.clone(), text: text.clone(), cap, nwork: 3 })?;
+/// k, a pattern and a text.
+pub type Question = (u32, Vec<u32>, Vec<u32>);
+
+/// Every pattern with every text over the letters of k base letters, up to the given lengths. The last that is handed
+/// on is the text's number among all texts.
+pub fn each_small_pair(mut with: impl FnMut(u32, &[u32], &[u32], usize) -> Told) -> Told {
+    for (k, m, n) in [(1, 6, 8), (2, 4, 7), (3, 2, 4), (3, 3, 3)] {
+        let letters: Vec<u32> = (1..=whole(k)).collect();
+        let texts = strings_up_to(&letters, n);
+        for pattern in strings_up_to(&letters, m).iter().skip(1) {
+            for (index, text) in texts.iter().enumerate() {
+                with(k, pattern, text, index)?;
+            }
         }
     }
     Ok(())
 }
 
 pub fn exhaustive(run: &mut Run) -> Told {
-    universe(run, 1, 6, 8)?;
-    universe(run, 2, 4, 7)?;
-    universe(run, 3, 2, 4)?;
-    universe(run, 3, 3, 3)
+    each_small_pair(|k, pattern, text, index| {
+        let cap = index % (text.len() + 3);
+        each(run, &SearchCase { k, pattern: pattern.to_vec(), text: text.to_vec(), cap, nwork: 3 })
+    })
 }
 
 fn lengths(run: &mut Run) -> (usize, usize) {
@@ -57,11 +62,17 @@ fn lengths(run: &mut Run) -> (usize, usize) {
     (m, n)
 }
 
+/// A pair of any k and of any kind.
+pub fn random_pair(run: &mut Run) -> Question {
+    let k = run.random.pick(&[1, 2, 2, 3, 3, 4, 5, 9, 10, 16, 26, 31, 32]);
+    let (m, n) = lengths(run);
+    let (pattern, text) = pair(&mut run.random, k, m, n);
+    (k, pattern, text)
+}
+
 pub fn random(run: &mut Run) -> Told {
     for _ in 0..run.times(40_000) {
-        let k = run.random.pick(&[1, 2, 2, 3, 3, 4, 5, 9, 10, 16, 26, 31, 32]);
-        let (m, n) = lengths(run);
-        let (pattern, text) = pair(&mut run.random, k, m, n);
+        let (k, pattern, text) = random_pair(run);
         let total = hits(&pattern, &text).len();
         for engine in ENGINES {
             let caps = [0, 1, total / 2, total.saturating_sub(1), total, total + 1, total + 9];
@@ -91,20 +102,20 @@ fn strings(run: &mut Run, kind: usize, k: u32, m: usize, n: usize) -> (Vec<u32>,
     }
 }
 
-pub fn limits(run: &mut Run) -> Told {
+/// A text of the greatest lengths, on which fewer questions are asked.
+fn long(n: usize) -> bool {
+    n > 1000
+}
+
+/// Patterns and texts of the least and the greatest lengths.
+pub fn each_limit(run: &mut Run, with: fn(&mut Run, Question) -> Told) -> Told {
     for m in [1, 2, 63, 64] {
         for n in [0, 1, m - 1, m, m + 1, 2 * m, 65_535, 65_536] {
             for kind in 0..9 {
-                let long = n > 1000;
-                let ks = if long { &[1, 2, 32][kind % 3..][..1] } else { &[1, 2, 31, 32][..] };
+                let ks = if long(n) { &[1, 2, 32][kind % 3..][..1] } else { &[1, 2, 31, 32][..] };
                 for k in ks {
                     let (pattern, text) = strings(run, kind, *k, m, n);
-                    let total = hits(&pattern, &text).len();
-                    for cap in
-                        [0, 1, total.saturating_sub(1), total, total + 1].into_iter().skip(if long { 4 } else { 0 })
-                    {
-                        each(run, &SearchCase { k: *k, pattern: pattern.clone(), text: text.clone(), cap, nwork: 3 })?;
-                    }
+                    with(run, (*k, pattern, text))?;
                 }
             }
         }
@@ -112,9 +123,30 @@ pub fn limits(run: &mut Run) -> Told {
     Ok(())
 }
 
-/// The six things that can be wrong with a search, each as a bit of `faults`.
-fn faulty(run: &mut Run, faults: usize, base: &SearchCase) -> SearchCase {
-    let mut case = base.clone();
+pub fn limits(run: &mut Run) -> Told {
+    each_limit(run, |run, (k, pattern, text)| {
+        let total = hits(&pattern, &text).len();
+        let caps = [0, 1, total.saturating_sub(1), total, total + 1];
+        for cap in caps.into_iter().skip(if long(text.len()) { 4 } else { 0 }) {
+            each(run, &SearchCase { k, pattern: pattern.clone(), text: text.clone(), cap, nwork: 3 })?;
+        }
+        Ok(())
+    })
+}
+
+/// A pair in which things can be made wrong.
+pub fn right_pair(run: &mut Run) -> Question {
+    let k = run.random.pick(&[1, 2, 3, 9, 31, 32]);
+    let m = run.random.pick(&[1, 2, 5, 63, 64]);
+    let n = run.random.pick(&[0, 1, 2, 64, 200]);
+    let (pattern, text) = pair(&mut run.random, k, m, n);
+    (k, pattern, text)
+}
+
+/// The five things that can be wrong with a question, 1 to 5, each as a bit of `faults`.
+pub fn faulty(run: &mut Run, faults: usize, base: &Question) -> Question {
+    let (right_k, right_pattern, _) = base;
+    let (mut k, mut pattern, mut text) = base.clone();
     let random = &mut run.random;
     let fault = |number: usize| faults >> number & 1 == 1;
     let mut spoil = |letters: &mut Vec<u32>, k: u32| {
@@ -128,54 +160,52 @@ fn faulty(run: &mut Run, faults: usize, base: &SearchCase) -> SearchCase {
         }
     };
     if fault(3) {
-        spoil(&mut case.pattern, base.k);
+        spoil(&mut pattern, *right_k);
     }
     if fault(4) {
-        spoil(&mut case.text, base.k);
+        spoil(&mut text, *right_k);
     }
     if fault(0) {
-        case.k = random.pick(&[0, 33, 34, 64, 255, 256, u32::MAX]);
+        k = random.pick(&[0, 33, 34, 64, 255, 256, u32::MAX]);
     }
     if fault(1) {
         let m = random.pick(&[0, 65, 66, 128, 300]);
-        case.pattern = (0..m).map(|j| base.pattern[j % base.pattern.len()]).collect();
+        pattern = (0..m).map(|j| right_pattern[j % right_pattern.len()]).collect();
         if fault(3) && m > 0 {
-            case.pattern[m - 1] = 0;
+            pattern[m - 1] = 0;
         }
     }
     if fault(2) {
-        let letter = case.text.first().copied().unwrap_or(1);
-        case.text.resize(random.pick(&[65_537, 65_538, 70_000]), letter);
+        let letter = text.first().copied().unwrap_or(1);
+        text.resize(random.pick(&[65_537, 65_538, 70_000]), letter);
     }
-    if fault(5) {
-        case.nwork = random.below(3);
-    }
-    case
+    (k, pattern, text)
 }
 
-pub fn refusals(run: &mut Run) -> Told {
-    for round in 0..run.times(64 * 60) {
-        let k = run.random.pick(&[1, 2, 3, 9, 31, 32]);
-        let m = run.random.pick(&[1, 2, 5, 63, 64]);
-        let n = run.random.pick(&[0, 1, 2, 64, 200]);
-        let (pattern, text) = pair(&mut run.random, k, m, n);
-        let cap = run.random.pick(&[0, 1, 5, 300]);
-        let base = SearchCase { k, pattern, text, cap, nwork: 3 };
-        let faults = run.random.faults(round, 6);
-        let case = faulty(run, faults, &base);
-        each(run, &case)?;
-    }
-    // Every k with letters on both sides of its limit, in every kind of place.
+/// Every k with letters on both sides of its limit, in every kind of place.
+pub fn each_letter(mut with: impl FnMut(Question) -> Told) -> Told {
     for k in 0..=34 {
         let letters = (0..32).map(|b| 1u32 << b).chain([0, 3, 6, whole(k.min(32)), !0, !0 << 1, !0 >> 1]);
         for letter in letters {
             for m in [1, 2, 64] {
                 let mut long = vec![1; m];
                 long[m / 2] = letter;
-                each(run, &SearchCase { k, pattern: long.clone(), text: vec![1; m + 1], cap: 2, nwork: 3 })?;
-                each(run, &SearchCase { k, pattern: vec![1; m], text: long, cap: 2, nwork: 3 })?;
+                with((k, long.clone(), vec![1; m + 1]))?;
+                with((k, vec![1; m], long))?;
             }
         }
     }
     Ok(())
+}
+
+pub fn refusals(run: &mut Run) -> Told {
+    for round in 0..run.times(64 * 60) {
+        let base = right_pair(run);
+        let cap = run.random.pick(&[0, 1, 5, 300]);
+        let faults = run.random.faults(round, 6);
+        let (k, pattern, text) = faulty(run, faults, &base);
+        let nwork = if faults >> 5 & 1 == 1 { run.random.below(3) } else { 3 };
+        each(run, &SearchCase { k, pattern, text, cap, nwork })?;
+    }
+    each_letter(|(k, pattern, text)| each(run, &SearchCase { k, pattern, text, cap: 2, nwork: 3 }))
 }

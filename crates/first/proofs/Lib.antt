@@ -1,0 +1,2 @@
+pub mod FirstLaws
+pub mod CallLaws
