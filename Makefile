@@ -15,7 +15,7 @@ help:
 	@echo 'make test                               the gate and the tests from outside, the same as .ci/run'
 	@echo 'make lib                                prove the library and build $(LIB)'
 	@echo 'make install DESTDIR=.. PREFIX=..       header, archive, program, manual pages, pkg-config file, example; make uninstall removes them'
-	@echo 'make bench                              time the six searches beside the same engines in plain C'
+	@echo 'make bench                              time the six searches and the first hit beside the same in plain C'
 	@echo 'make fmt                                lay out every .rt and .antt file'
 	@echo 'make clean                              remove target/, where all that is built lies'
 
@@ -34,8 +34,8 @@ $(PROGRAM): $(SOURCES)
 	@bash .ci/proving target/search.out search rt check search
 	@touch $@
 
-# The functions are set to lines of 64 bytes, and Brute's moved by 16 within its line, code unchanged: a short loop that crosses a line can take twice as
-# long (docs/SPEED.md).
+# The functions are set to lines of 64 bytes, and those of Brute and of the first hit moved by 16 within their line, code unchanged: a short loop that crosses a
+# line can take twice as long (docs/SPEED.md).
 PLACE = target/place
 $(LIB): $(SOURCES) c/place.ld
 	@bash .ci/need rt binutils

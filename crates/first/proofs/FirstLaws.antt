@@ -3,25 +3,25 @@ use mathlib.Core.Path.{_≡_, refl, sym, ap, _∙_}
 use mathlib.Core.Bool.{Bool, true, false}
 use mathlib.Core.List.{List, [], _∷_, _++_}
 use mathlib.Core.Logic.{⊎-elim}
-use Prim.Native.Nat.{ℕ, zero, suc, _+_, _-_, _*_, _≤_, _<_, min}
+use Prim.Native.Nat.{ℕ, zero, suc, _+_, _-_, _*_, _≤_, _<_}
 use native.Mathlib.Nat.{zero-add, suc-add, eq-or-lt-of-le}
 use native.Mathlib.Numerals.{add-one}
 use native.Mathlib.Omega.{arith}
-use borrow.Author.Tests.{le-leb}
+use borrow.Author.Tests.{le-leb, lt-leb}
 use lib.Dec.{eqb}
 use lib.ListN.{length, getD, take, length-take}
 use lib.Seq.{getD-take}
 use Rattle.letters.specs.Members.{keep}
 use Rattle.letters.specs.Sizes.{Sized}
 use Rattle.letters.proofs.Truth.{bool-cases}
-use Rattle.hits.specs.Hits.{within, met, hitAt, hitsFrom, hits}
+use Rattle.hits.specs.Hits.{within, hitAt, hitsFrom, hits}
 use Rattle.hits.specs.Scans.{reach}
-use Rattle.hits.specs.Turns.{Run, after, run, unlessFound, runFirst}
+use Rattle.hits.specs.Turns.{Run, idle, after, run, unlessFound, runFirst}
 use Rattle.hits.proofs.HitLaws.{hit-is, hit-fits}
 use Rattle.hits.proofs.MetLaws.{met-same}
 use Rattle.hits.proofs.ScanLaws.{scan-hit, tests-le, tests-same}
 use Rattle.hits.proofs.RunLaws.{run-on, by-start, run-enough}
-use Rattle.hits.proofs.HeadLaws.{first-on, first-head, first-none, first-scan-le}
+use Rattle.hits.proofs.HeadLaws.{first-stop, first-on, first-head, first-none, first-scan-le}
 use Rattle.inputs.specs.Refusals.{verdict}
 use Rattle.inputs.specs.declared.refusal.Check.the-variants.{Passed}
 use Rattle.brute.specs.Brute.{bruteTurn, bruteRun}
@@ -66,6 +66,11 @@ module _ (P T : List ℕ) where
   pub first-whole : hits P T ≡ [] → firstRun P T ≡ bruteRun P T
   unfolding firstRun bruteRun
   first-whole e = first-none (within P T) (bruteTurn P T) (suc (length T)) 0 (brute-finds P T ∙ e)
+
+  -- a pattern longer than the text: no turn, and no count
+  pub first-idle : length T < length P → firstRun P T ≡ idle
+  unfolding firstRun
+  first-idle l = first-stop (within P T) (bruteTurn P T) (suc (length T)) 0 (lt-leb (0 + length P) (length T) (omega arith))
 
   pub first-le : firstRun P T .scan ≤ bruteRun P T .scan
   unfolding firstRun bruteRun

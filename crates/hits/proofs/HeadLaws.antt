@@ -79,7 +79,6 @@ module _ {S : Type 0} (more : S → Bool) (turn : S → Turn S) where
 pub record Looking (P T : List ℕ) (turn : ℕ → Turn ℕ) (m n i scan : ℕ) : Type 0 where
   pub pattern : m ≡ length P
   pub text : n ≡ length T
-  pub top : i ≤ n + 1
   pub turns : ℕ
   pub enough : n < i + turns
   pub founds : runFirst (within P T) turn (suc (length T)) 0 .found ≡ runFirst (within P T) turn turns i .found
@@ -90,7 +89,7 @@ module _ (P T : List ℕ) (turn : ℕ → Turn ℕ) where
   whole = runFirst (within P T) turn (suc (length T)) 0
 
   pub look : Looking P T turn (length P) (length T) 0 0
-  look = record { pattern = refl; text = refl; top = omega arith; turns = suc (length T); enough = omega arith; founds = refl; scans = omega arith }
+  look = record { pattern = refl; text = refl; turns = suc (length T); enough = omega arith; founds = refl; scans = omega arith }
 
   module _ (m n i scan : ℕ) (h : Looking P T turn m n i scan) where
     -- a pass of the loop
@@ -126,15 +125,14 @@ module _ (P T : List ℕ) (turn : ℕ → Turn ℕ) where
             )
 
         -- none: on to the next start
-        pub look-on : r .hit ≡ false → i < r .next → r .next ≤ n + 1 → Looking P T turn m n (r .next) (scan + r .scan)
-        look-on e a b =
+        pub look-on : r .hit ≡ false → i < r .next → Looking P T turn m n (r .next) (scan + r .scan)
+        look-on e a =
             let w : runFirst (within P T) turn (h .turns) i ≡ after (turn i) further = here ∙ ap (λ (xs : List ℕ). after (turn i) (unlessFound xs further)) (finds false e) in
             let x : r .next ≡ turn i .next = ap (λ (x : Turn ℕ). x .next) q in
             let u = h .enough in
             record {
               pattern = h .pattern;
               text = h .text;
-              top = b;
               turns = h .turns - 1;
               enough = omega arith;
               founds = h .founds ∙ ap (λ (x : Run). x .found) w ∙ rw (finds false e, x);

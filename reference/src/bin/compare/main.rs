@@ -2,7 +2,8 @@
 //!
 //!     compare [SEED] [SCALE] [--only GROUP] [--broken NAME] [--each-broken] [--list]
 //!
-//! One line for each group with its number of cases. On a difference the case is printed whole, with exit status 1.
+//! One line for each group with its number of cases. On a difference the case is printed whole, with exit status 1. Groups
+//! run at the same time, one on each processor: the library may be called by any number of threads at once.
 
 mod broken;
 mod cases;
@@ -20,6 +21,9 @@ use random::Random;
 use std::collections::{BTreeMap, BTreeSet};
 use std::fmt::Debug;
 use std::process::ExitCode;
+use std::sync::atomic::{AtomicUsize, Ordering};
+use std::sync::OnceLock;
+use std::thread;
 use std::time::Instant;
 
 /// A group under way.
@@ -128,6 +132,35 @@ fn run(group: &Group, options: &Options, broken: Option<&'static str>) -> Result
     (group.run)(&mut run).map(|_| run.summary())
 }
 
+/// The line that a group comes to, and whether all of its cases agree.
+fn line(group: &Group, options: &Options) -> (String, bool) {
+    let begin = Instant::now();
+    match run(group, options, options.broken) {
+        Ok(summary) => (format!("{}: {summary} in {:.1} s", group.name, begin.elapsed().as_secs_f64()), true),
+        Err(difference) => {
+            (format!("{}: DIFFERS (seed {}, scale {})\n{difference}", group.name, options.seed, options.scale), false)
+        }
+    }
+}
+
+/// Runs these groups, each by the next thread that is free, and prints their lines in their order.
+fn compare(groups: &[&Group], options: &Options) -> bool {
+    let next = AtomicUsize::new(0);
+    let lines: Vec<OnceLock<(String, bool)>> = groups.iter().map(|_| OnceLock::new()).collect();
+    thread::scope(|scope| {
+        for _ in 0..thread::available_parallelism().map_or(1, usize::from) {
+            scope.spawn(|| loop {
+                let at = next.fetch_add(1, Ordering::Relaxed);
+                let Some(group) = groups.get(at) else { break };
+                lines[at].get_or_init(|| line(group, options));
+            });
+        }
+    });
+    let told: Vec<_> = lines.into_iter().filter_map(OnceLock::into_inner).collect();
+    told.iter().for_each(|(line, _)| println!("{line}"));
+    told.len() == groups.len() && told.iter().all(|(_, agrees)| *agrees)
+}
+
 /// Every slip must be noticed by every group that it names.
 fn each_broken(options: &Options, wanted: &dyn Fn(&str) -> bool) -> bool {
     let mut all = true;
@@ -161,18 +194,14 @@ fn main() -> ExitCode {
     if options.each_broken {
         return if each_broken(&options, &wanted) { ExitCode::SUCCESS } else { ExitCode::FAILURE };
     }
-    for group in GROUPS.iter().filter(|group| wanted(group.name)) {
-        let begin = Instant::now();
-        match run(group, &options, options.broken) {
-            Ok(summary) => println!("{}: {summary} in {:.1} s", group.name, begin.elapsed().as_secs_f64()),
-            Err(difference) => {
-                println!("{}: DIFFERS (seed {}, scale {})\n{difference}", group.name, options.seed, options.scale);
-                return ExitCode::FAILURE;
-            }
-        }
-    }
+    let groups: Vec<&Group> = GROUPS.iter().filter(|group| wanted(group.name)).collect();
+    let agree = compare(&groups, &options);
     if options.only.is_none() && !named {
         println!("program: not run, since BREAKWARP_SEARCH names no program");
     }
-    ExitCode::SUCCESS
+    if agree {
+        ExitCode::SUCCESS
+    } else {
+        ExitCode::FAILURE
+    }
 }
