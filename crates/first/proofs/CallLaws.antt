@@ -1,13 +1,12 @@
 -- What answers the promise of the first hit called from C. Assumes nothing.
 use mathlib.Core.Path.{_≡_, refl, ap, _∙_}
-use mathlib.Core.List.{List, [], _∷_}
+use mathlib.Core.List.{List}
 use Prim.Native.Nat.{ℕ, _<_}
 use native.Mathlib.Omega.{arith}
 use borrow.Author.Tests.{lt-ltb}
 use lib.IntN.{ℤ}
-use lib.ListN.{length, set}
+use lib.ListN.{length}
 use Rattle.promise.specs.Promised.{Promised}
-use Rattle.lent.specs.Over.{over}
 use Rattle.inputs.specs.Refusals.{verdict, refuse, withRoom}
 use Rattle.inputs.specs.declared.refusal.Check.{Check}
 use Rattle.inputs.specs.declared.refusal.Check.the-variants.{Passed, Refused}
@@ -16,18 +15,6 @@ use Rattle.codes.specs.Called.{shortOf}
 use Rattle.first.specs.First.{firstRun, firstOf, Sought}
 use Rattle.first.specs.Called.{firstCode, foundLeft, FirstCalled}
 use Rattle.first.specs.declared.First.{First}
-
--- numbers written one by one
-pub one-over : (a : ℕ) (d : List ℕ) → 1 < length d → set d 0 a ≡ over (a ∷ []) d
-unfolding over
-one-over a [] h = absurd (omega arith)
-one-over a (x ∷ d) h = refl
-
-pub two-over : (a b : ℕ) (d : List ℕ) → 1 < length d → set (set d 0 a) 1 b ≡ over (a ∷ b ∷ []) d
-unfolding over
-two-over a b [] h = absurd (omega arith)
-two-over a b (x ∷ []) h = absurd (omega arith)
-two-over a b (x ∷ y ∷ d) h = refl
 
 module _ (K M N k : ℕ) (P T d : List ℕ) where
   -- the promise, by what the checks say
