@@ -15,7 +15,7 @@ help:
 	@echo 'make test                               the gate and the tests from outside, the same as .ci/run'
 	@echo 'make lib                                prove the library and build $(LIB)'
 	@echo 'make install DESTDIR=.. PREFIX=..       header, archive, program, manual pages, pkg-config file, example; make uninstall removes them'
-	@echo 'make bench                              time the six searches and the first hit beside the same in plain C'
+	@echo 'make bench                              time the six searches and the first hit beside the same in plain C, and the reader'
 	@echo 'make fmt                                lay out every .rt and .antt file'
 	@echo 'make clean                              remove target/, where all that is built lies'
 
@@ -34,14 +34,14 @@ $(PROGRAM): $(SOURCES)
 	@bash .ci/proving target/search.out search rt check search
 	@touch $@
 
-# The functions are set to lines of 64 bytes, and those of Brute and of the first hit moved by 16 within their line, code unchanged: a short loop that crosses a
+# The functions are set to lines of 64 bytes, and the searches moved within their line as c/place.ld says, code unchanged: a short loop that crosses a
 # line can take twice as long (docs/SPEED.md).
 PLACE = target/place
 $(LIB): $(SOURCES) c/place.ld
 	@bash .ci/need rt binutils
 	@bash .ci/proving target/lib.out breakwarp rt staticlib breakwarp
 	@rm -rf $(PLACE) && mkdir -p $(PLACE)
-	@cp $@ $(PLACE)/kit.a && cd $(PLACE) && ar x kit.a && objcopy --set-section-alignment '.text.*=16' breakwarp.o kit.o
+	@cp $@ $(PLACE)/kit.a && cd $(PLACE) && ar x kit.a && objcopy --set-section-alignment '.text.*=8' breakwarp.o kit.o
 	@ld -r -T c/place.ld $(PLACE)/kit.o -o $(PLACE)/breakwarp.o && objcopy --set-section-alignment '.text.*=64' $(PLACE)/breakwarp.o
 	@rm $@ && ar rcs $@ $(PLACE)/breakwarp.o
 	@touch $@
@@ -61,13 +61,15 @@ bench: $(LIB)
 	@gcc -E -P bench/engines.c -o $(BENCH)/engines.i.c
 	@$(CC_K) -O3 -falign-functions=64 -falign-loops=32 -c $(BENCH)/engines.i.c -o $(BENCH)/engines.o
 	@gcc -std=c11 -O2 -Wall -Wextra -c bench/bench.c -o $(BENCH)/bench.o
+	@gcc -std=c11 -O2 -Wall -Wextra -o $(BENCH)/reader bench/reader.c $(LIB)
 	@for pad in 0 16 32 48; do gcc -DPAD=$$pad -c bench/pad.c -o $(BENCH)/pad.o && \
 	  gcc -o $(BENCH)/bench-$$pad $(BENCH)/bench.o $(BENCH)/engines.o $(BENCH)/pad.o $(LIB) || exit 1; done
 	@if [ -f $(BENCH)/run.txt ]; then mv $(BENCH)/run.txt $(BENCH)/before.txt; fi
 	@{ $(BENCH)/bench-0 && \
 	  for pad in 16 32 48; do echo; echo "moved by $$pad bytes, before alignment"; $(BENCH)/bench-$$pad means || exit 1; done && \
 	  $(BENCH)/bench-0 grow && echo && \
-	  $(BENCH)/bench-0 first; } > $(BENCH)/running.txt
+	  $(BENCH)/bench-0 first && echo && \
+	  $(BENCH)/reader; } > $(BENCH)/running.txt
 	@mv $(BENCH)/running.txt $(BENCH)/run.txt
 	@cat $(BENCH)/run.txt
 	@python3 bench/tables.py $(BENCH)/run.txt `ls $(BENCH)/before.txt 2>/dev/null || echo $(BENCH)/run.txt` > $(BENCH)/tables.md

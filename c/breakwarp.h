@@ -3,10 +3,12 @@
  * Link with libbreakwarp.a. Usable from C and C++. No call keeps state between calls, none uses
  * the heap or touches errno, and any number of threads may call at once on memory of their own.
  *
- * LETTERS. An alphabet has k base letters, numbered 0 to k - 1. A letter is a nonempty set of base
- * letters, held in 32 bits: bit b stands for base letter b. Two letters meet if they share a
- * member. Start i of a text of n letters is a hit of a pattern of m letters if i + m is at most n
- * and each pattern letter meets the text letter under it. Hits may overlap.
+ * LETTERS. An alphabet has k base letters, numbered 0 to k - 1. A letter is a set of base letters,
+ * held in 32 bits: bit b stands for base letter b. A text may hold the letter 0, the entry mark,
+ * between the entries that it is made of; a pattern may not. Two letters meet if they share a
+ * member, so a mark meets nothing. Start i of a text of n letters is a hit of a pattern of m
+ * letters if i + m is at most n and each pattern letter meets the text letter under it. Hits may
+ * overlap; none lies over a mark.
  *
  * SLICES. Every lent slice is a pointer and a length in elements. A slice of length 0 may have a
  * null pointer. A slice that is written must not overlap another slice of the same call.
@@ -33,7 +35,7 @@
 extern "C" {
 #endif
 
-#define BREAKWARP_VERSION "1.1"
+#define BREAKWARP_VERSION "1.2"
 
 /* Limits. */
 #define BREAKWARP_MAX_K 32            /* base letters */
@@ -56,7 +58,7 @@ extern "C" {
 #define BREAKWARP_REFUSED_M 2         /* the pattern has no letter, or above 64 */
 #define BREAKWARP_REFUSED_N 3         /* text or converted string above 65,536 letters */
 #define BREAKWARP_REFUSED_PATTERN 4   /* a pattern letter is 0 or has a bit from k on: its index */
-#define BREAKWARP_REFUSED_TEXT 5      /* the same for a text or converted letter: its index */
+#define BREAKWARP_REFUSED_TEXT 5      /* a text or converted letter has a bit from k on: index */
 #define BREAKWARP_REFUSED_PRODUCT_K 6 /* products asked for, k is 10 to 32 */
 #define BREAKWARP_REFUSED_PRODUCT 7   /* a value is no product: its index */
 #define BREAKWARP_REFUSED_ROOM 8      /* lent output shorter than the result */
@@ -96,17 +98,18 @@ int64_t breakwarp_first(uint32_t k, const uint32_t *pattern, size_t m, const uin
                         size_t n, uint64_t *found, size_t nfound);
 
 /* Letters to prime products: base letter b stands for the prime at b in 2, 3, 5, 7, 11, 13, 17,
- * 19, 23, and a letter for the product of its members' primes. Writes n products and returns n.
- * Refusals, in this order: 1, 6, 3, 5, 8. */
+ * 19, 23, and a letter for the product of its members' primes; so an entry mark, 0, for 1. Writes
+ * n products and returns n. Refusals, in this order: 1, 6, 3, 5, 8. */
 int64_t breakwarp_to_products(uint32_t k, const uint32_t *letters, size_t n, uint32_t *products,
                               size_t cap);
 
-/* Products to letters. Writes n letters and returns n. Refusals, in this order: 1, 6, 3, 7, 8. */
+/* Products to letters; 1 gives 0 back, the entry mark. Writes n letters and returns n. Refusals, in
+ * this order: 1, 6, 3, 7, 8. */
 int64_t breakwarp_from_products(uint32_t k, const uint32_t *products, size_t n, uint32_t *letters,
                                 size_t cap);
 
-/* Whether two products meet: 1 if their letters share a member, else 0. Refusals, in this order:
- * 1, 6, 7. */
+/* Whether two products meet: 1 if their letters share a member, else 0; the product 1 meets none.
+ * Refusals, in this order: 1, 6, 7. */
 int64_t breakwarp_products_meet(uint32_t k, uint32_t a, uint32_t b);
 
 /* Reads a search sheet: alphabet bytes, pattern letters and text letters go into the three lent
@@ -120,7 +123,8 @@ int64_t breakwarp_read_sheet(const uint8_t *sheet, size_t nsheet, uint8_t *alpha
                              size_t ntext, uint64_t *sizes, size_t nsizes);
 
 /* Writes a search sheet and returns its length in bytes. The alphabet has k different bytes from
- * 32 to 126, none of '[', ']', '*'. Refusals, in this order: 1, 12, 2, 3, 4, 5, 10, 8. */
+ * 32 to 126, none of '[', ']', '*', '|'; an entry mark of the text is written '|'. Refusals, in
+ * this order: 1, 12, 2, 3, 4, 5, 10, 8. */
 int64_t breakwarp_write_sheet(uint32_t k, const uint8_t *alphabet, size_t nalphabet,
                               const uint32_t *pattern, size_t m, const uint32_t *text, size_t n,
                               uint8_t *sheet, size_t cap);

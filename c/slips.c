@@ -1,6 +1,7 @@
 /* Shows that test.c notices what it looks for. Linked with test.c and the library, it stands between them, calls the
- * library, and then makes the slip that the environment variable BREAKWARP_SLIP asks for as CALL:SLIP, for example
- * brute:after. slips.sh builds it and tries every slip of every call. */
+ * library, and makes the slip that the environment variable BREAKWARP_SLIP asks for as CALL:SLIP, for example
+ * brute:after: in what is handed on if it is about the mark, else in what has come back. slips.sh builds it and tries
+ * every slip of every call. */
 #include "breakwarp.h"
 
 #include <errno.h>
@@ -46,6 +47,47 @@ static int64_t slipped(const char *call, int64_t answer, struct output out, cons
     return asked(call, "answer") ? answer + 1 : answer;
 }
 
+/* Slips about the mark are made before the call: it gets a copy in which something else stands for each mark. The test
+ * notices them only where it has marks. One slip is asked for at a time, so that one copy is enough. */
+
+/* The letters or products, with `to` for each `from` if that slip is asked for. */
+static const uint32_t *swapped(const char *call, const char *slip, const uint32_t *values, size_t n, uint32_t from,
+                               uint32_t to)
+{
+    static uint32_t copy[BREAKWARP_MAX_N + 1];
+    if (!asked(call, slip) || n > sizeof copy / sizeof *copy)
+        return values;
+    for (size_t at = 0; at < n; at++)
+        copy[at] = values[at] == from ? to : values[at];
+    return copy;
+}
+
+/* The sheet, with `to` for each `|` of one line, counted from 0, if that slip is asked for: for those in brackets, or
+ * for the others. */
+static const uint8_t *swapped_line(const char *call, const char *slip, const uint8_t *sheet, size_t n, int line,
+                                   int bracket, uint8_t to)
+{
+    static uint8_t copy[BREAKWARP_MAX_SHEET + 1];
+    if (!asked(call, slip) || n > sizeof copy)
+        return sheet;
+    int inside = 0;
+    for (size_t at = 0; at < n; at++) {
+        copy[at] = sheet[at] == '|' && line == 0 && inside == bracket ? to : sheet[at];
+        line -= sheet[at] == '\n';
+        inside = sheet[at] == '[' || (inside && sheet[at] != ']');
+    }
+    return copy;
+}
+
+/* In the alphabet `|` is taken for another byte, in the lines of the pattern and the text for the letter `a`. */
+static const uint8_t *swapped_sheet(const char *call, const uint8_t *sheet, size_t n)
+{
+    sheet = swapped_line(call, "mark-alphabet", sheet, n, 1, 0, '~');
+    sheet = swapped_line(call, "mark-pattern", sheet, n, 3, 0, 'a');
+    sheet = swapped_line(call, "mark-bracket", sheet, n, 5, 1, 'a');
+    return swapped_line(call, "mark", sheet, n, 5, 0, 'a');
+}
+
 static size_t least(size_t a, size_t b)
 {
     return a < b ? a : b;
@@ -60,7 +102,9 @@ static size_t least(size_t a, size_t b)
     int64_t __wrap_breakwarp_##name(uint32_t k, const uint32_t *pattern, size_t m, const uint32_t *text, size_t n,     \
                                     uint32_t *hits, size_t cap, uint64_t *work, size_t nwork)                          \
     {                                                                                                                  \
-        int64_t answer = __real_breakwarp_##name(k, pattern, m, text, n, hits, cap, work, nwork);                      \
+        const uint32_t *p = swapped(#name, "mark-pattern", pattern, m, 0, 1);                                          \
+        const uint32_t *t = swapped(#name, "mark", text, n, 0, 1);                                                     \
+        int64_t answer = __real_breakwarp_##name(k, p, m, t, n, hits, cap, work, nwork);                               \
         struct output list = {hits, sizeof *hits, cap, answer < 0 ? 0 : least((size_t)answer, cap)};                   \
         struct output counts = {work, sizeof *work, nwork, answer < 0 ? 0 : 3};                                        \
         slipped(#name "-work", answer, counts, text, n * sizeof *text);                                                \
@@ -81,7 +125,9 @@ int64_t __wrap_breakwarp_first(uint32_t, const uint32_t *, size_t, const uint32_
 int64_t __wrap_breakwarp_first(uint32_t k, const uint32_t *pattern, size_t m, const uint32_t *text, size_t n,
                                uint64_t *found, size_t nfound)
 {
-    int64_t answer = __real_breakwarp_first(k, pattern, m, text, n, found, nfound);
+    const uint32_t *p = swapped("first", "mark-pattern", pattern, m, 0, 1);
+    const uint32_t *t = swapped("first", "mark", text, n, 0, 1);
+    int64_t answer = __real_breakwarp_first(k, p, m, t, n, found, nfound);
     struct output nothing = {NULL, 1, 0, 0};
     struct output scan = {found, sizeof *found, nfound, answer == 1 ? 1 : 0};
     struct output out = {found, sizeof *found, nfound, answer < 0 ? 0 : answer == 0 ? 1 : 2};
@@ -92,25 +138,28 @@ int64_t __wrap_breakwarp_first(uint32_t k, const uint32_t *pattern, size_t m, co
     return slipped("first", answer, out, pattern, m * sizeof *pattern);
 }
 
-#define CONVERSION(name)                                                                                               \
+/* `mark` is what stands for the mark, the letter 0 or the product 1, and `other` what it is taken for. */
+#define CONVERSION(name, mark, other)                                                                                  \
     int64_t __real_breakwarp_##name(uint32_t, const uint32_t *, size_t, uint32_t *, size_t);                           \
     int64_t __wrap_breakwarp_##name(uint32_t, const uint32_t *, size_t, uint32_t *, size_t);                           \
     int64_t __wrap_breakwarp_##name(uint32_t k, const uint32_t *from, size_t n, uint32_t *to, size_t cap)              \
     {                                                                                                                  \
-        int64_t answer = __real_breakwarp_##name(k, from, n, to, cap);                                                 \
+        const uint32_t *f = swapped(#name, "mark", from, n, mark, other);                                              \
+        int64_t answer = __real_breakwarp_##name(k, f, n, to, cap);                                                    \
         struct output out = {to, sizeof *to, cap, answer < 0 ? 0 : (size_t)answer};                                    \
         return slipped(#name, answer, out, from, n * sizeof *from);                                                    \
     }
 
-CONVERSION(to_products)
-CONVERSION(from_products)
+CONVERSION(to_products, 0, 1)
+CONVERSION(from_products, 1, 2)
 
 int64_t __real_breakwarp_products_meet(uint32_t, uint32_t, uint32_t);
 int64_t __wrap_breakwarp_products_meet(uint32_t, uint32_t, uint32_t);
 int64_t __wrap_breakwarp_products_meet(uint32_t k, uint32_t a, uint32_t b)
 {
     struct output none = {NULL, 1, 0, 0};
-    return slipped("products_meet", __real_breakwarp_products_meet(k, a, b), none, NULL, 0);
+    const uint32_t pair[] = {a, b}, *p = swapped("products_meet", "mark", pair, 2, 1, 2);
+    return slipped("products_meet", __real_breakwarp_products_meet(k, p[0], p[1]), none, NULL, 0);
 }
 
 int64_t __real_breakwarp_read_sheet(const uint8_t *, size_t, uint8_t *, size_t, uint32_t *, size_t, uint32_t *, size_t,
@@ -121,7 +170,8 @@ int64_t __wrap_breakwarp_read_sheet(const uint8_t *sheet, size_t nsheet, uint8_t
                                     uint32_t *pattern, size_t npattern, uint32_t *text, size_t ntext, uint64_t *sizes,
                                     size_t nsizes)
 {
-    int64_t answer = __real_breakwarp_read_sheet(sheet, nsheet, alphabet, nalphabet, pattern, npattern, text, ntext,
+    const uint8_t *read = swapped_sheet("read_sheet", sheet, nsheet);
+    int64_t answer = __real_breakwarp_read_sheet(read, nsheet, alphabet, nalphabet, pattern, npattern, text, ntext,
                                                  sizes, nsizes);
     int taken = answer >= 0;
     struct output a = {alphabet, 1, nalphabet, taken ? (size_t)sizes[0] : 0};
@@ -141,7 +191,10 @@ int64_t __wrap_breakwarp_write_sheet(uint32_t, const uint8_t *, size_t, const ui
 int64_t __wrap_breakwarp_write_sheet(uint32_t k, const uint8_t *alphabet, size_t nalphabet, const uint32_t *pattern,
                                      size_t m, const uint32_t *text, size_t n, uint8_t *sheet, size_t cap)
 {
-    int64_t answer = __real_breakwarp_write_sheet(k, alphabet, nalphabet, pattern, m, text, n, sheet, cap);
+    const uint8_t *a = swapped_line("write_sheet", "mark-alphabet", alphabet, nalphabet, 0, 0, '~');
+    const uint32_t *p = swapped("write_sheet", "mark-pattern", pattern, m, 0, 1);
+    const uint32_t *t = swapped("write_sheet", "mark", text, n, 0, 1);
+    int64_t answer = __real_breakwarp_write_sheet(k, a, nalphabet, p, m, t, n, sheet, cap);
     struct output out = {sheet, 1, cap, answer < 0 ? 0 : (size_t)answer};
     return slipped("write_sheet", answer, out, alphabet, nalphabet);
 }
@@ -150,7 +203,7 @@ int64_t __real_breakwarp_report(const uint8_t *, size_t, uint8_t *, size_t);
 int64_t __wrap_breakwarp_report(const uint8_t *, size_t, uint8_t *, size_t);
 int64_t __wrap_breakwarp_report(const uint8_t *sheet, size_t nsheet, uint8_t *report, size_t cap)
 {
-    int64_t answer = __real_breakwarp_report(sheet, nsheet, report, cap);
+    int64_t answer = __real_breakwarp_report(swapped_sheet("report", sheet, nsheet), nsheet, report, cap);
     struct output out = {report, 1, cap, answer < 0 ? 0 : (size_t)answer};
     return slipped("report", answer, out, sheet, nsheet);
 }

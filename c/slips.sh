@@ -33,7 +33,7 @@ for call in $calls; do
     [ "$call" = products_meet ] && continue
     for slip in value before after tail refused input errno; do try "$call" "$slip"; done
 done
-for call in brute kmp bm sunday shiftand hybrid; do
+for call in $searches; do
     for slip in value before after tail refused input; do try "$call-work" "$slip"; done
 done
 try first-text input
@@ -42,4 +42,9 @@ for slip in value tail; do try first-none "$slip"; done
 for call in read_sheet-pattern read_sheet-text read_sheet-sizes; do
     for slip in value before after tail refused; do try "$call" "$slip"; done
 done
+# Slips about the mark: taken for a letter, in the text or as a product; in the pattern; in the alphabet; in a bracket.
+for call in $calls; do try "$call" mark; done
+for call in $searches first read_sheet write_sheet report; do try "$call" mark-pattern; done
+for call in read_sheet write_sheet report; do try "$call" mark-alphabet; done
+for call in read_sheet report; do try "$call" mark-bracket; done
 echo "slips: $noticed slips, all noticed"

@@ -109,6 +109,19 @@ static void *copy(const void *content, size_t bytes)
     return block;
 }
 
+/* So many letters, all alike. */
+static uint32_t *alike(size_t n, uint32_t letter)
+{
+    uint32_t *letters = malloc(n * sizeof *letters);
+    if (letters == NULL) {
+        printf("c: no memory for the test\n");
+        exit(1);
+    }
+    for (size_t at = 0; at < n; at++)
+        letters[at] = letter;
+    return letters;
+}
+
 /* What was lent for reading is as it was. */
 static void unchanged(const char *what, void *block, const void *content, size_t bytes)
 {
@@ -163,9 +176,15 @@ static void try_search(size_t engine, uint32_t k, const uint32_t *p, size_t m, c
     unchanged("text", text, t, n * sizeof *t);
 }
 
+/* The letter of a text that ends an entry. It meets nothing. */
+#define MARK 0
+
 static const uint32_t anna[] = {1, 4, 4, 1};
 static const uint32_t page[] = {1, 4, 4, 1, 4, 4, 3, 4, 1, 4, 4, 5};
 static const uint32_t page_hits[] = {0, 3, 8};
+/* The first name is cut by the mark, the second one is whole. */
+static const uint32_t entries[] = {1, 4, MARK, 4, 1, 1, 4, 4, 1};
+static const uint32_t entries_hits[] = {5};
 
 static void worked_search(void)
 {
@@ -197,9 +216,35 @@ static void small_searches(void)
     }
 }
 
+/* Marks in the text: in a name, under `*`, alone, first, last, two in a row, with one base letter and with 32. */
+static void marked_searches(void)
+{
+    static const uint64_t work[ENGINES][3] = {{12, 0, 0}, {11, 0, 0}, {9, 0, 0}, {11, 0, 0}, {0, 0, 9}, {5, 0, 6}};
+    static const uint64_t one[ENGINES][3] = {{1, 0, 0}, {1, 0, 0}, {1, 0, 0}, {1, 0, 0}, {0, 0, 1}, {1, 0, 0}};
+    /* Two unsure letters before the mark: KMP carries one of them on and comes to the mark again. */
+    static const uint64_t carried[ENGINES][3] = {{9, 0, 0}, {8, 1, 0}, {4, 0, 0}, {7, 0, 0}, {0, 0, 6}, {3, 0, 3}};
+    static const uint32_t aan[] = {1, 1, 4}, doubts[] = {5, 5, MARK, 1, 1, 4}, at3[] = {3}, all[] = {7};
+    static const uint32_t a[] = {1}, lone[] = {MARK, 1, MARK, MARK}, at1[] = {1}, last[] = {UINT32_C(1) << 31};
+    static const uint32_t whole[] = {UINT32_MAX}, far[] = {MARK, UINT32_C(1) << 31, MARK, MARK};
+    for (size_t e = 0; e < ENGINES; e++) {
+        for (size_t cap = 0; cap <= 3; cap++)
+            try_search(e, 3, anna, 4, entries, 9, cap, 3, 1, entries_hits, work[e]);
+        try_search(e, 3, aan, 3, doubts, 6, 2, 3, 1, at3, carried[e]);
+        try_search(e, 3, all, 1, lone, 1, 2, 3, 0, NULL, one[e]);
+        try_search(e, 32, whole, 1, lone, 1, 2, 3, 0, NULL, one[e]);
+        try_search(e, 1, a, 1, lone, 4, 2, 3, 1, at1, NULL);
+        try_search(e, 32, last, 1, far, 4, 2, 3, 1, at1, NULL);
+        try_search(e, 32, whole, 1, far + 2, 2, 2, 3, 0, NULL, NULL);
+        /* A mark in the pattern is refused. */
+        try_search(e, 3, entries + 2, 1, entries, 9, 2, 3, AT(BREAKWARP_REFUSED_PATTERN, 0), NULL, NULL);
+        try_search(e, 3, entries, 9, entries, 9, 2, 0, AT(BREAKWARP_REFUSED_PATTERN, 2), NULL, NULL);
+    }
+}
+
 static void search_refusals(void)
 {
     static const uint32_t bad[] = {1, 2, 8}, empty[] = {1, 0}, twice[] = {1, 8, 0}, good[] = {1, 2, 4};
+    static const uint32_t behind[] = {MARK, MARK, 8, MARK, 16};
     static const struct {
         uint32_t k;
         const uint32_t *p;
@@ -217,7 +262,9 @@ static void search_refusals(void)
         {3, empty, 2, good, 3, 3, BREAKWARP_REFUSED_PATTERN, 1},
         {3, empty, 2, bad, 3, 2, BREAKWARP_REFUSED_PATTERN, 1},
         {3, good, 1, bad, 3, 3, BREAKWARP_REFUSED_TEXT, 2},
-        {3, good, 1, empty, 2, 0, BREAKWARP_REFUSED_TEXT, 1},
+        {3, good, 1, empty, 2, 0, BREAKWARP_REFUSED_ROOM, 0},
+        {3, good, 1, behind, 5, 0, BREAKWARP_REFUSED_TEXT, 2},
+        {3, empty, 2, behind, 5, 0, BREAKWARP_REFUSED_PATTERN, 1},
         {2, good, 1, good, 3, 3, BREAKWARP_REFUSED_TEXT, 2},
         {3, twice, 3, good, 3, 3, BREAKWARP_REFUSED_PATTERN, 1},
         {3, good, 1, twice, 3, 3, BREAKWARP_REFUSED_TEXT, 1},
@@ -233,17 +280,8 @@ static void search_refusals(void)
 /* The largest text, the longest pattern, the largest alphabet, and one more of each. */
 static void search_limits(void)
 {
-    uint32_t *text = malloc((BREAKWARP_MAX_N + 1) * sizeof *text);
-    uint32_t *hits = malloc(BREAKWARP_MAX_N * sizeof *hits);
-    uint32_t pattern[BREAKWARP_MAX_M + 1];
-    if (text == NULL || hits == NULL) {
-        printf("c: no memory for the test\n");
-        exit(1);
-    }
-    for (size_t q = 0; q <= BREAKWARP_MAX_N; q++)
-        text[q] = UINT32_C(1) << 31;
-    for (size_t j = 0; j <= BREAKWARP_MAX_M; j++)
-        pattern[j] = UINT32_C(1) << 31;
+    uint32_t *text = alike(BREAKWARP_MAX_N + 1, UINT32_C(1) << 31), *pattern = text;
+    uint32_t *hits = alike(BREAKWARP_MAX_N, 0);
     for (size_t i = 0; i < BREAKWARP_MAX_N; i++)
         hits[i] = (uint32_t)i;
     for (size_t e = 0; e < ENGINES; e++) {
@@ -254,15 +292,30 @@ static void search_limits(void)
         try_search(e, 31, pattern, 64, text, 65536, 4, 3, -BREAKWARP_REFUSED_PATTERN, NULL, NULL);
         try_search(e, 33, pattern, 65, text, 65537, 4, 3, -BREAKWARP_REFUSED_K, NULL, NULL);
     }
-    /* The farthest place of a search: the last letter of the largest text. */
-    text[BREAKWARP_MAX_N - 1] = 0;
-    pattern[BREAKWARP_MAX_M - 1] = 0;
-    for (size_t e = 0; e < ENGINES; e++) {
-        try_search(e, 32, pattern, 63, text, 65536, 4, 3, AT(BREAKWARP_REFUSED_TEXT, 65535), NULL, NULL);
-        try_search(e, 32, pattern, 64, text, 65536, 4, 3, AT(BREAKWARP_REFUSED_PATTERN, 63), NULL, NULL);
-    }
+    /* A mark as the last letter of the text: one start less. */
+    text[BREAKWARP_MAX_N - 1] = MARK;
+    for (size_t e = 0; e < ENGINES; e++)
+        try_search(e, 32, pattern, 1, text, 65536, 4, 3, 65535, hits, NULL);
     free(text);
     free(hits);
+}
+
+/* The farthest places of a search: the last letter of the longest pattern, and of the largest text, behind nothing but
+ * marks. */
+static void far_searches(void)
+{
+    static const uint32_t a[] = {1}, last[] = {UINT32_C(1) << 31}, end[] = {65535};
+    uint32_t *text = alike(BREAKWARP_MAX_N, MARK), *pattern = alike(BREAKWARP_MAX_M, 1);
+    text[BREAKWARP_MAX_N - 1] = last[0];
+    pattern[BREAKWARP_MAX_M - 1] = MARK;
+    for (size_t e = 0; e < ENGINES; e++) {
+        try_search(e, 32, pattern, 64, text, 65536, 4, 3, AT(BREAKWARP_REFUSED_PATTERN, 63), NULL, NULL);
+        try_search(e, 31, a, 1, text, 65536, 4, 3, AT(BREAKWARP_REFUSED_TEXT, 65535), NULL, NULL);
+        try_search(e, 31, a, 1, text, 65535, 4, 3, 0, NULL, NULL);
+        try_search(e, 32, last, 1, text, 65536, 4, 3, 1, end, NULL);
+    }
+    free(text);
+    free(pattern);
 }
 
 /* Slices of length 0 with null pointers. */
@@ -302,7 +355,17 @@ static void try_first(uint32_t k, const uint32_t *p, size_t m, const uint32_t *t
     unchanged("text", text, t, n * sizeof *t);
 }
 
-/* Each with no room, too little, enough and more: too little is refused without a hit too, and after a wrong letter. */
+/* With no room, too little, enough and more, over three base letters: too little is refused without a hit too, and after
+ * a wrong letter. */
+static void try_first_rooms(const uint32_t *p, size_t m, const uint32_t *t, size_t n, int64_t answer, uint64_t scan,
+                            uint64_t start)
+{
+    for (size_t nfound = 0; nfound <= 5; nfound++) {
+        int short_of = answer >= 0 && nfound < 2;
+        try_first(3, p, m, t, n, nfound, short_of ? -BREAKWARP_REFUSED_ROOM : answer, scan, start);
+    }
+}
+
 static void worked_firsts(void)
 {
     static const uint32_t an[] = {1, 4}, na[] = {4, 1}, e_[] = {2}, all[] = {7}, eeean[] = {2, 2, 2, 1, 4};
@@ -327,17 +390,25 @@ static void worked_firsts(void)
         {an, 2, an, 1, 0, 0, 0},
         {an, 2, NULL, 0, 0, 0, 0},
         {an, 2, behind, 3, AT(BREAKWARP_REFUSED_TEXT, 2), 0, 0},
-        {e_, 1, empty, 2, AT(BREAKWARP_REFUSED_TEXT, 1), 0, 0},
         {behind, 3, behind, 3, AT(BREAKWARP_REFUSED_PATTERN, 2), 0, 0},
         {empty, 2, page, 12, AT(BREAKWARP_REFUSED_PATTERN, 1), 0, 0},
         {an, 0, behind, 3, -BREAKWARP_REFUSED_M, 0, 0},
     };
     for (size_t r = 0; r < LENGTH(rows); r++)
-        for (size_t nfound = 0; nfound <= 5; nfound++) {
-            int short_of = rows[r].answer >= 0 && nfound < 2;
-            try_first(3, rows[r].p, rows[r].m, rows[r].t, rows[r].n, nfound,
-                      short_of ? -BREAKWARP_REFUSED_ROOM : rows[r].answer, rows[r].scan, rows[r].start);
-        }
+        try_first_rooms(rows[r].p, rows[r].m, rows[r].t, rows[r].n, rows[r].answer, rows[r].scan, rows[r].start);
+}
+
+/* Behind the cut name the whole one; cut off again by one letter; `*` over a mark, and over two and a letter. */
+static void marked_firsts(void)
+{
+    static const uint32_t all[] = {7}, marks[] = {MARK, MARK, 4, MARK}, bad[] = {1, MARK, 8};
+    try_first_rooms(anna, 4, entries, 9, 1, 12, 5);
+    try_first_rooms(anna, 4, entries, 8, 0, 8, 0);
+    try_first_rooms(all, 1, marks, 1, 0, 1, 0);
+    try_first_rooms(all, 1, marks, 4, 1, 3, 2);
+    try_first_rooms(all, 1, bad, 3, AT(BREAKWARP_REFUSED_TEXT, 2), 0, 0);
+    try_first_rooms(marks, 1, entries, 9, AT(BREAKWARP_REFUSED_PATTERN, 0), 0, 0);
+    try_first_rooms(bad, 2, entries, 9, AT(BREAKWARP_REFUSED_PATTERN, 1), 0, 0);
 }
 
 static void first_refusals(void)
@@ -373,17 +444,8 @@ static void first_refusals(void)
 /* The largest text with its hit at either end and with none, the longest pattern, and one more of each. */
 static void first_limits(void)
 {
-    uint32_t *text = malloc((BREAKWARP_MAX_N + 1) * sizeof *text);
-    uint32_t met[BREAKWARP_MAX_M + 1], spoilt[BREAKWARP_MAX_M];
-    if (text == NULL) {
-        printf("c: no memory for the test\n");
-        exit(1);
-    }
-    for (size_t q = 0; q <= BREAKWARP_MAX_N; q++)
-        text[q] = UINT32_C(1) << 31;
-    for (size_t j = 0; j <= BREAKWARP_MAX_M; j++)
-        met[j] = UINT32_C(1) << 31;
-    memcpy(spoilt, met, sizeof spoilt);
+    uint32_t *text = alike(BREAKWARP_MAX_N + 1, UINT32_C(1) << 31), *met = text;
+    uint32_t *spoilt = alike(BREAKWARP_MAX_M, UINT32_C(1) << 31);
     spoilt[BREAKWARP_MAX_M - 1] = 1;
     /* All 64 letters at each of the 65,473 starts: no call makes more tests. */
     const uint64_t most = 64 * 65473;
@@ -406,14 +468,31 @@ static void first_limits(void)
     try_first(32, spoilt, 64, text, 65536, 2, 1, most, 65472);
     try_first(32, spoilt + 63, 1, text, 65536, 2, 1, 65536, 65535);
     try_first(32, spoilt, 64, text, 65535, 2, 0, most - 64, 0);
-    /* The farthest places, the text's behind a hit at start 0. */
-    text[BREAKWARP_MAX_N - 1] = 0;
-    try_first(32, met, 64, text, 65536, 2, AT(BREAKWARP_REFUSED_TEXT, 65535), 0, 0);
-    try_first(32, met, 64, text, 65536, 0, AT(BREAKWARP_REFUSED_TEXT, 65535), 0, 0);
-    try_first(32, met, 64, text, 65535, 2, 1, 64, 0);
-    met[BREAKWARP_MAX_M - 1] = 0;
-    try_first(32, met, 64, text, 65536, 2, AT(BREAKWARP_REFUSED_PATTERN, 63), 0, 0);
+    /* A mark in the place of that letter. */
+    text[BREAKWARP_MAX_N - 1] = MARK;
+    try_first(32, met, 64, text, 65536, 2, 1, 64, 0);
+    try_first(32, spoilt + 63, 1, text, 65536, 2, 0, 65536, 0);
     free(text);
+    free(spoilt);
+}
+
+/* The farthest places: the last letter of the longest pattern, and of the largest text, behind a hit at start 0 and
+ * nothing but marks. */
+static void far_firsts(void)
+{
+    static const uint32_t a[] = {1}, last[] = {UINT32_C(1) << 31};
+    uint32_t *text = alike(BREAKWARP_MAX_N, MARK), *pattern = alike(BREAKWARP_MAX_M, 1);
+    text[0] = 1;
+    text[BREAKWARP_MAX_N - 1] = last[0];
+    pattern[BREAKWARP_MAX_M - 1] = MARK;
+    try_first(32, pattern, 64, text, 65536, 2, AT(BREAKWARP_REFUSED_PATTERN, 63), 0, 0);
+    try_first(31, a, 1, text, 65536, 2, AT(BREAKWARP_REFUSED_TEXT, 65535), 0, 0);
+    try_first(31, a, 1, text, 65536, 0, AT(BREAKWARP_REFUSED_TEXT, 65535), 0, 0);
+    try_first(31, a, 1, text, 65535, 2, 1, 1, 0);
+    /* The hit is the last letter, with one test for each letter before it. */
+    try_first(32, last, 1, text, 65536, 2, 1, 65536, 65535);
+    free(text);
+    free(pattern);
 }
 
 static uint64_t seed = 1;
@@ -433,6 +512,15 @@ static void draw(uint32_t *letters, size_t n, uint32_t k)
     }
 }
 
+/* The same with some marks, as a text may have them. */
+static void draw_text(uint32_t *letters, size_t n, uint32_t k)
+{
+    draw(letters, n, k);
+    for (size_t at = 0; at < n; at++)
+        if (below(9) == 0)
+            letters[at] = MARK;
+}
+
 /* Beside brute on random pairs. Where there is a hit, brute on the text up to the end of it makes the tests that are
  * due, and whatever comes after it changes nothing. */
 static void firsts_beside_brute(void)
@@ -444,7 +532,7 @@ static void firsts_beside_brute(void)
         size_t m = 1 + below(LENGTH(pattern)), n = below(N + 1), nfound = 2 + below(4);
         uint64_t whole[3], upto[3];
         draw(pattern, m, k);
-        draw(text, N, k);
+        draw_text(text, N, k);
         snprintf(about, sizeof about, "first beside brute, pair %zu", pair);
         int64_t total = breakwarp_brute(k, pattern, m, text, n, head, 1, whole, 3);
         if (total == 0) {
@@ -456,7 +544,7 @@ static void firsts_beside_brute(void)
         same("hits up to its end", breakwarp_brute(k, pattern, m, text, end, head, 1, upto, 3), 1);
         try_first(k, pattern, m, text, n, nfound, 1, upto[0], head[0]);
         try_first(k, pattern, m, text, end, nfound, 1, upto[0], head[0]);
-        draw(text + end, N - end, k);
+        draw_text(text + end, N - end, k);
         try_first(k, pattern, m, text, end + below((uint32_t)(N - end + 1)), nfound, 1, upto[0], head[0]);
         try_first(k, pattern, m, text, N, nfound, 1, upto[0], head[0]);
         /* One letter less, and neither the hit nor its m tests are made. */
@@ -489,7 +577,7 @@ static void try_convert(const char *name, convert *call, uint32_t k, const uint3
 static void conversions(void)
 {
     static const uint32_t letters[] = {3, 4, 7}, products[] = {6, 5, 30}, nine[] = {0x1ff}, most[] = {223092870};
-    static const uint32_t none[] = {0, 1, 4, 7}, mixed[] = {6, 5, 4, 0}, bad[] = {1, 8}, empty[] = {0};
+    static const uint32_t none[] = {0, 4, 7}, mixed[] = {6, 5, 4, 0}, bad[] = {1, 8}, empty[] = {0};
     for (size_t cap = 3; cap <= 5; cap++) {
         TO(3, letters, 3, cap, 3, products);
         FROM(3, products, 3, cap, 3, letters);
@@ -505,7 +593,6 @@ static void conversions(void)
     FROM(8, most, 1, 0, -BREAKWARP_REFUSED_PRODUCT, NULL);
     FROM(3, mixed, 4, 4, AT(BREAKWARP_REFUSED_PRODUCT, 2), NULL);
     TO(3, bad, 2, 1, AT(BREAKWARP_REFUSED_TEXT, 1), NULL);
-    TO(3, empty, 1, 1, -BREAKWARP_REFUSED_TEXT, NULL);
     for (uint32_t k = 10; k <= 32; k++) {
         TO(k, empty, 1, 0, -BREAKWARP_REFUSED_PRODUCT_K, NULL);
         FROM(k, empty, 1, 0, -BREAKWARP_REFUSED_PRODUCT_K, NULL);
@@ -521,23 +608,38 @@ static void conversions(void)
     same("from_products", breakwarp_from_products(3, NULL, 0, NULL, 0), 0);
 }
 
+/* A mark among letters, and for every k alone; its product is 1, and 0 is still none. */
+static void marked_conversions(void)
+{
+    static const uint32_t letters[] = {3, MARK, 7}, products[] = {6, 1, 30};
+    static const uint32_t bad[] = {MARK, MARK, 8}, none[] = {1, 1, 0};
+    for (size_t cap = 3; cap <= 5; cap++) {
+        TO(3, letters, 3, cap, 3, products);
+        FROM(3, products, 3, cap, 3, letters);
+    }
+    for (uint32_t k = 1; k <= 9; k++) {
+        TO(k, letters + 1, 1, 1, 1, products + 1);
+        FROM(k, products + 1, 1, 1, 1, letters + 1);
+        TO(k, letters + 1, 1, 0, -BREAKWARP_REFUSED_ROOM, NULL);
+        FROM(k, products + 1, 1, 0, -BREAKWARP_REFUSED_ROOM, NULL);
+    }
+    TO(3, bad, 3, 3, AT(BREAKWARP_REFUSED_TEXT, 2), NULL);
+    FROM(3, none, 3, 3, AT(BREAKWARP_REFUSED_PRODUCT, 2), NULL);
+}
+
 static void long_conversions(void)
 {
     size_t n = BREAKWARP_MAX_N + 1;
-    uint32_t *letters = malloc(n * sizeof *letters), *products = malloc(n * sizeof *products);
-    if (letters == NULL || products == NULL) {
-        printf("c: no memory for the test\n");
-        exit(1);
-    }
+    uint32_t *letters = alike(n, 0), *products = alike(n, 0);
     for (size_t at = 0; at < n; at++) {
-        letters[at] = at % 2 ? 2 : 5;
-        products[at] = at % 2 ? 3 : 10;
+        letters[at] = at % 3 == 2 ? MARK : at % 3 ? 2 : 5;
+        products[at] = at % 3 == 2 ? 1 : at % 3 ? 3 : 10;
     }
     TO(3, letters, n - 1, n, (int64_t)n - 1, products);
     FROM(3, products, n - 1, n, (int64_t)n - 1, letters);
     TO(3, letters, n, n, -BREAKWARP_REFUSED_N, NULL);
     FROM(3, products, n, n, -BREAKWARP_REFUSED_N, NULL);
-    letters[n - 2] = 0;
+    letters[n - 2] = 8;
     products[n - 2] = 9;
     TO(3, letters, n - 1, n, AT(BREAKWARP_REFUSED_TEXT, n - 2), NULL);
     FROM(3, products, n - 1, n, AT(BREAKWARP_REFUSED_PRODUCT, n - 2), NULL);
@@ -555,7 +657,14 @@ static void meetings(void)
     same("all nine and 23", breakwarp_products_meet(9, 223092870, 23), 1);
     same("0 and 6", breakwarp_products_meet(3, 0, 6), -BREAKWARP_REFUSED_PRODUCT);
     same("6 and 7", breakwarp_products_meet(3, 6, 7), AT(BREAKWARP_REFUSED_PRODUCT, 1));
-    same("1 and 1", breakwarp_products_meet(3, 1, 1), -BREAKWARP_REFUSED_PRODUCT);
+    /* The mark's product meets nothing, not itself either. */
+    same("1 and 1", breakwarp_products_meet(3, 1, 1), 0);
+    same("1 and 6", breakwarp_products_meet(3, 1, 6), 0);
+    same("30 and 1", breakwarp_products_meet(3, 30, 1), 0);
+    same("1 and all nine", breakwarp_products_meet(9, 1, 223092870), 0);
+    same("0 and 1", breakwarp_products_meet(3, 0, 1), -BREAKWARP_REFUSED_PRODUCT);
+    same("1 and 0", breakwarp_products_meet(3, 1, 0), AT(BREAKWARP_REFUSED_PRODUCT, 1));
+    same("1 and 4", breakwarp_products_meet(3, 1, 4), AT(BREAKWARP_REFUSED_PRODUCT, 1));
     same("k 10", breakwarp_products_meet(10, 0, 0), -BREAKWARP_REFUSED_PRODUCT_K);
     same("k 32", breakwarp_products_meet(32, 6, 6), -BREAKWARP_REFUSED_PRODUCT_K);
     same("k 0", breakwarp_products_meet(0, 6, 6), -BREAKWARP_REFUSED_K);
@@ -568,15 +677,19 @@ static const char worked[] = "3\naen\n4\nanna\n12\nannann[ae]nann[an]\n";
 static const char worked_report[] = "hits 3\n0\n3\n8\nbrute 20 0 0\nkmp 13 4 0\nbm 14 3 0\nsunday 15 0 0\n"
                                     "shiftand 0 0 12\nhybrid 1 0 12\n";
 
-/* Reads a sheet; one that is taken must be the worked one. */
-static void try_read(const char *bytes, size_t length, size_t nalphabet, size_t npattern, size_t ntext, size_t nsizes,
-                     int64_t answer)
+static const char entries_sheet[] = "3\naen\n4\nanna\n9\nan|naanna\n";
+static const char entries_report[] = "hits 1\n5\nbrute 12 0 0\nkmp 11 0 0\nbm 9 0 0\nsunday 11 0 0\n"
+                                    "shiftand 0 0 9\nhybrid 5 0 6\n";
+
+/* Reads a sheet; one that is taken must hold `anna` over `aen` and the text `due` of `n` letters. */
+static void try_read_text(const char *bytes, size_t length, size_t nalphabet, size_t npattern, size_t ntext,
+                          size_t nsizes, int64_t answer, const uint32_t *due, size_t n)
 {
-    static const uint64_t sizes[3] = {3, 4, 12};
+    const uint64_t sizes[3] = {3, 4, n};
     snprintf(about, sizeof about, "read_sheet of %zu bytes beginning %.20s into %zu, %zu, %zu, %zu", length,
              length == 0 ? "" : bytes, nalphabet, npattern, ntext, nsizes);
     uint8_t *sheet = copy(bytes, length);
-    struct lent a = lend(nalphabet), p = lend(npattern * sizeof *anna), t = lend(ntext * sizeof *page);
+    struct lent a = lend(nalphabet), p = lend(npattern * sizeof *anna), t = lend(ntext * sizeof *due);
     struct lent s = lend(nsizes * sizeof *sizes);
     errno = 77;
     same("answer",
@@ -585,9 +698,39 @@ static void try_read(const char *bytes, size_t length, size_t nalphabet, size_t 
     same("errno", errno, 77);
     holds("alphabet", a, "aen", answer < 0 ? 0 : 3);
     holds("pattern", p, anna, answer < 0 ? 0 : sizeof anna);
-    holds("text", t, page, answer < 0 ? 0 : sizeof page);
+    holds("text", t, due, answer < 0 ? 0 : n * sizeof *due);
     holds("sizes", s, sizes, answer < 0 ? 0 : sizeof sizes);
     unchanged("sheet", sheet, bytes, length);
+}
+
+/* The same of the worked sheet, and of those that are refused. */
+static void try_read(const char *bytes, size_t length, size_t nalphabet, size_t npattern, size_t ntext, size_t nsizes,
+                     int64_t answer)
+{
+    try_read_text(bytes, length, nalphabet, npattern, ntext, nsizes, answer, page, LENGTH(page));
+}
+
+/* A mark is one letter of the text, and counted as one. */
+static void marked_readings(void)
+{
+    size_t length = strlen(entries_sheet), n = LENGTH(entries);
+    try_read_text(entries_sheet, length, 3, 4, 9, 3, 0, entries, n);
+    try_read_text(entries_sheet, length, 32, 64, 100, 4, 0, entries, n);
+    try_read_text(entries_sheet, length, 3, 4, 8, 3, -BREAKWARP_REFUSED_ROOM, entries, n);
+    /* A text line that is cut is wrong at the sheet's length, behind the mark too. */
+    for (size_t end = 15; end < length; end++)
+        try_read_text(entries_sheet, end, 3, 4, 9, 3, AT(BREAKWARP_REFUSED_NOTATION, end), entries, n);
+    uint8_t alphabet[1];
+    uint32_t pattern[1], text[3];
+    uint64_t sizes[3];
+    const char *lone = "1\na\n1\na\n3\n|a|\n";
+    snprintf(about, sizeof about, "read_sheet of %.9s", lone);
+    same("answer",
+         breakwarp_read_sheet((const uint8_t *)lone, strlen(lone), alphabet, 1, pattern, 1, text, 3, sizes, 3), 0);
+    same("n", (long long)sizes[2], 3);
+    same("first", text[0], MARK);
+    same("between", text[1], 1);
+    same("last", text[2], MARK);
 }
 
 static void readings(void)
@@ -639,17 +782,26 @@ static const struct {
     {"33\naen\n1\na\n1\na\n", BREAKWARP_REFUSED_K, 0},
     {"3\naea\n1\na\n1\na\n", BREAKWARP_REFUSED_ALPHABET, 4},
     {"3\naen]\n1\na\n1\na\n", BREAKWARP_REFUSED_ALPHABET, 5},
+    {"3\na|n\n1\na\n1\na\n", BREAKWARP_REFUSED_ALPHABET, 3},
+    {"1\n|\n1\na\n1\n|\n", BREAKWARP_REFUSED_ALPHABET, 2},
     {"3\naen\n0\n\n1\na\n", BREAKWARP_REFUSED_M, 6},
     {"3\naen\n65\na\n1\na\n", BREAKWARP_REFUSED_M, 6},
     {"3\naen\n1\na\n65537\na\n", BREAKWARP_REFUSED_N, 10},
     {"3\naen\n1\na\n100000\na\n", BREAKWARP_REFUSED_COUNT, 10},
     {"3\naen\n1\n[ea]\n1\na\n", BREAKWARP_REFUSED_NOTATION, 10},
+    {"3\naen\n1\n|\n1\na\n", BREAKWARP_REFUSED_NOTATION, 8},
+    {"3\naen\n5\nan|na\n1\na\n", BREAKWARP_REFUSED_NOTATION, 10},
+    {"3\naen\n1\n[a|n]\n1\na\n", BREAKWARP_REFUSED_NOTATION, 10},
+    {"3\naen\n1\na\n1\n[|n]\n", BREAKWARP_REFUSED_NOTATION, 13},
+    {"3\naen\n1\na\n3\n|a[a|n]\n", BREAKWARP_REFUSED_NOTATION, 16},
     {"3\naen\n1\na\n1\n[a]\n", BREAKWARP_REFUSED_NOTATION, 14},
     {"3\naen\n1\na\n1\n[aen]\n", BREAKWARP_REFUSED_NOTATION, 15},
     {"2\nae\n1\na\n1\n[ae]\n", BREAKWARP_REFUSED_NOTATION, 11},
     {"1\na\n1\na\n1\n*\n", BREAKWARP_REFUSED_NOTATION, 10},
     {"3\naen\n2\na\n1\na\n", BREAKWARP_REFUSED_DIFFERS, 6},
     {"3\naen\n1\na\n65536\na\n", BREAKWARP_REFUSED_DIFFERS, 10},
+    {"3\naen\n1\na\n2\na|a\n", BREAKWARP_REFUSED_DIFFERS, 10},
+    {"3\naen\n1\na\n0\n|\n", BREAKWARP_REFUSED_DIFFERS, 10},
     {"3\naen\n1\na\n1\na\n\n", BREAKWARP_REFUSED_AFTER, 14},
 };
 
@@ -710,6 +862,10 @@ static void reports(void)
     for (size_t cap = 0; cap <= needed + 1; cap++)
         try_report(worked, length, cap, cap < needed ? -BREAKWARP_REFUSED_ROOM : (int64_t)needed, worked_report);
     try_report(worked, length, BREAKWARP_MAX_REPORT, (int64_t)needed, worked_report);
+    needed = strlen(entries_report);
+    try_report(entries_sheet, strlen(entries_sheet), needed, (int64_t)needed, entries_report);
+    try_report(entries_sheet, strlen(entries_sheet), needed + 1, (int64_t)needed, entries_report);
+    try_report(entries_sheet, strlen(entries_sheet), needed - 1, -BREAKWARP_REFUSED_ROOM, NULL);
     snprintf(about, sizeof about, "report with null pointers");
     same("no sheet", breakwarp_report(NULL, 0, NULL, 0), -BREAKWARP_REFUSED_COUNT);
     same("no room", breakwarp_report((const uint8_t *)worked, length, NULL, 0), -BREAKWARP_REFUSED_ROOM);
@@ -753,6 +909,24 @@ static void try_write(uint32_t k, const char *alphabet, size_t nalphabet, const 
     unchanged("text", text, t, n * sizeof *t);
 }
 
+/* A mark in the text is one byte of the sheet; in the pattern and in the alphabet it is refused. */
+static void marked_writings(void)
+{
+    static const uint32_t marks[] = {MARK, MARK, 1, 8}, a[] = {1};
+    size_t needed = strlen(entries_sheet);
+    try_write(3, "aen", 3, anna, 4, entries, 9, needed - 1, -BREAKWARP_REFUSED_ROOM, NULL);
+    try_write(3, "aen", 3, anna, 4, entries, 9, needed, (int64_t)needed, entries_sheet);
+    try_write(3, "aen", 3, anna, 4, entries, 9, needed + 1, (int64_t)needed, entries_sheet);
+    try_write(1, "a", 1, a, 1, marks, 3, 20, 14, "1\na\n1\na\n3\n||a\n");
+    try_write(2, "ae", 2, a, 1, marks + 1, 1, 20, 13, "2\nae\n1\na\n1\n|\n");
+    try_write(3, "aen", 3, a, 1, marks, 4, 99, AT(BREAKWARP_REFUSED_TEXT, 3), NULL);
+    try_write(3, "aen", 3, entries, 4, marks, 4, 99, AT(BREAKWARP_REFUSED_PATTERN, 2), NULL);
+    try_write(3, "aen", 3, marks, 1, entries, 9, 99, AT(BREAKWARP_REFUSED_PATTERN, 0), NULL);
+    try_write(3, "ae|", 3, marks, 1, marks, 4, 99, AT(BREAKWARP_REFUSED_ALPHABET, 2), NULL);
+    try_write(3, "|e|", 3, anna, 4, entries, 9, 99, AT(BREAKWARP_REFUSED_ALPHABET, 0), NULL);
+    try_write(1, "|", 1, a, 1, a, 1, 99, AT(BREAKWARP_REFUSED_ALPHABET, 0), NULL);
+}
+
 static void writings(void)
 {
     static const uint32_t bad[] = {1, 8}, a[] = {1};
@@ -772,16 +946,19 @@ static void writings(void)
     try_write(3, "aenxyz", 6, anna, 4, page, 12, 99, AT(BREAKWARP_REFUSED_ALPHABET, 3), NULL);
     try_write(3, "aen", 3, bad, 2, bad, 2, 0, AT(BREAKWARP_REFUSED_PATTERN, 1), NULL);
     try_write(3, "aen", 3, anna, 4, bad, 2, 0, AT(BREAKWARP_REFUSED_TEXT, 1), NULL);
-    /* Eight thousand letters and more: 8,192 bytes are written, one more is refused, whatever the room. */
-    size_t n = BREAKWARP_MAX_N + 1;
-    uint32_t *text = malloc(n * sizeof *text);
+    snprintf(about, sizeof about, "write_sheet with null pointers");
+    same("no alphabet", breakwarp_write_sheet(3, NULL, 0, NULL, 0, NULL, 0, NULL, 0), -BREAKWARP_REFUSED_ALPHABET);
+    same("no pattern", breakwarp_write_sheet(1, (const uint8_t *)"a", 1, NULL, 0, NULL, 0, NULL, 0), -BREAKWARP_REFUSED_M);
+    same("no room", breakwarp_write_sheet(1, (const uint8_t *)"a", 1, a, 1, NULL, 0, NULL, 0), -BREAKWARP_REFUSED_ROOM);
+}
+
+/* Eight thousand letters and more: 8,192 bytes are written, one more is refused, whatever the room. */
+static void long_writings(void)
+{
+    static const uint32_t a[] = {1};
     static char full[BREAKWARP_MAX_SHEET + 1];
-    if (text == NULL) {
-        printf("c: no memory for the test\n");
-        exit(1);
-    }
-    for (size_t at = 0; at < n; at++)
-        text[at] = 1;
+    size_t n = BREAKWARP_MAX_N + 1;
+    uint32_t *text = alike(n, 1);
     int front = snprintf(full, sizeof full, "1\na\n1\na\n8178\n");
     memset(full + front, 'a', 8178);
     full[front + 8178] = '\n';
@@ -792,32 +969,36 @@ static void writings(void)
     try_write(1, "a", 1, a, 1, text, n - 1, 0, -BREAKWARP_REFUSED_SHEET, NULL);
     try_write(1, "a", 1, a, 1, text, n, 0, -BREAKWARP_REFUSED_N, NULL);
     free(text);
-    snprintf(about, sizeof about, "write_sheet with null pointers");
-    same("no alphabet", breakwarp_write_sheet(3, NULL, 0, NULL, 0, NULL, 0, NULL, 0), -BREAKWARP_REFUSED_ALPHABET);
-    same("no pattern", breakwarp_write_sheet(1, (const uint8_t *)"a", 1, NULL, 0, NULL, 0, NULL, 0), -BREAKWARP_REFUSED_M);
-    same("no room", breakwarp_write_sheet(1, (const uint8_t *)"a", 1, a, 1, NULL, 0, NULL, 0), -BREAKWARP_REFUSED_ROOM);
 }
 
 int main(void)
 {
     worked_search();
     small_searches();
+    marked_searches();
     search_refusals();
     search_limits();
+    far_searches();
     null_searches();
     worked_firsts();
+    marked_firsts();
     first_refusals();
     first_limits();
+    far_firsts();
     firsts_beside_brute();
     conversions();
+    marked_conversions();
     long_conversions();
     meetings();
     readings();
+    marked_readings();
     refused_sheets();
     places_of_reports();
     reports();
     longest_report();
     writings();
+    marked_writings();
+    long_writings();
     printf("c: %lu checks\n", checks);
     return 0;
 }

@@ -71,11 +71,12 @@ pub fn search(engine: Engine, k: u32, pattern: &[u32], text: &[u32]) -> Result<F
     Ok(engine.run(pattern, text))
 }
 
-/// R(c): the greatest pattern index whose letter meets c, or -1.
+/// R(c): the greatest pattern index whose letter meets c, or -1; so -1 for the mark, which meets none.
 pub fn r(pattern: &[u32], c: u32) -> i64 {
     (0..pattern.len()).filter(|j| meets(pattern[*j], c)).map(|j| j as i64).max().unwrap_or(-1)
 }
 
+/// Has every letter exactly one member? A mark has none.
 fn all_single(letters: &[u32]) -> bool {
     letters.iter().all(|c| single(*c))
 }

@@ -1,4 +1,8 @@
-//! Letters as sets of base letters, and when a start is a hit.
+//! Letters as sets of base letters, the mark that ends an entry, and when a start is a hit.
+
+/// The entry mark: the letter of a text that has no member. So it meets nothing, and no hit goes over it. It is not
+/// single, since it has no member; and it is not unsure, since nothing about it is in doubt.
+pub const MARK: u32 = 0;
 
 /// The base letters of a set, ascending.
 pub fn members(letter: u32) -> impl Iterator<Item = u32> {
@@ -20,9 +24,15 @@ pub fn whole(k: u32) -> u32 {
     (0..k).map(|b| 1 << b).sum()
 }
 
-/// A letter of an alphabet of k: not empty, no member at or above k.
-pub fn right(k: u32, letter: u32) -> bool {
-    letter != 0 && members(letter).all(|b| b < k)
+/// What a text over k base letters may hold, or a string that is converted: a letter without a member at or above k,
+/// the mark among them.
+pub fn right_in_text(k: u32, letter: u32) -> bool {
+    members(letter).all(|b| b < k)
+}
+
+/// What a pattern over k base letters may hold: the same but the mark.
+pub fn right_in_pattern(k: u32, letter: u32) -> bool {
+    letter != MARK && right_in_text(k, letter)
 }
 
 /// Start i is a hit if i + m is at most n and every pattern letter meets the text letter under it.

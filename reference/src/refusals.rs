@@ -1,6 +1,6 @@
 //! The limits, the refusal, and the checks that several calls share.
 
-use crate::letters::right;
+use crate::letters::{right_in_pattern, right_in_text};
 
 pub const MAX_K: u32 = 32;
 pub const MAX_M: usize = 64;
@@ -61,12 +61,22 @@ pub fn check_n(n: usize) -> Result<(), Refusal> {
     }
 }
 
-/// Refusals 4 and 5: the lowest index of a wrong letter.
-pub fn check_letters(number: u32, k: u32, letters: &[u32]) -> Result<(), Refusal> {
-    match letters.iter().position(|c| !right(k, *c)) {
+/// A refusal that names the lowest index of an element that is not right.
+pub fn check_each(number: u32, elements: &[u32], right: impl Fn(u32) -> bool) -> Result<(), Refusal> {
+    match elements.iter().position(|element| !right(*element)) {
         Some(place) => refuse(number, place),
         None => Ok(()),
     }
+}
+
+/// Refusal 4.
+pub fn check_pattern(k: u32, pattern: &[u32]) -> Result<(), Refusal> {
+    check_each(4, pattern, |c| right_in_pattern(k, c))
+}
+
+/// Refusal 5, of a text or of letters to be converted.
+pub fn check_text(k: u32, text: &[u32]) -> Result<(), Refusal> {
+    check_each(5, text, |c| right_in_text(k, c))
 }
 
 /// Refusal 8.
@@ -83,6 +93,6 @@ pub fn check_search(k: u32, pattern: &[u32], text: &[u32]) -> Result<(), Refusal
     check_k(k)?;
     check_m(pattern.len())?;
     check_n(text.len())?;
-    check_letters(4, k, pattern)?;
-    check_letters(5, k, text)
+    check_pattern(k, pattern)?;
+    check_text(k, text)
 }

@@ -5,19 +5,24 @@ use crate::letters::hits;
 use crate::refusals::Refusal;
 use crate::sheet::{read, Room};
 
-/// Total hits; each start; then engine, scan tests, shift tests, word steps.
+/// The report of a sheet that the reader takes.
 pub fn report(sheet: &[u8]) -> Result<Vec<u8>, Refusal> {
     let sheet = read(sheet, Room::AMPLE)?;
-    let hits = hits(&sheet.pattern, &sheet.text);
+    Ok(report_of(&sheet.pattern, &sheet.text))
+}
+
+/// Total hits; each start; then engine, scan tests, shift tests, word steps.
+pub fn report_of(pattern: &[u32], text: &[u32]) -> Vec<u8> {
+    let hits = hits(pattern, text);
     let mut out = format!("hits {}\n", hits.len());
     for start in hits {
         out += &format!("{start}\n");
     }
     for engine in ENGINES {
-        let work = engine.run(&sheet.pattern, &sheet.text).work;
+        let work = engine.run(pattern, text).work;
         out += &format!("{} {} {} {}\n", engine.name(), work.scan, work.shift, work.words);
     }
-    Ok(out.into_bytes())
+    out.into_bytes()
 }
 
 /// The report, or the line of the refusal.

@@ -1,9 +1,10 @@
 //! The search sheet: how a letter is spelled, the reader and the writer.
 //!
 //! The one ground for letters is `spelling`. A letter line is right if it is a row of spellings and LF, and a byte is
-//! wrong if no right line begins with the bytes up to it; the reader asks just that.
+//! wrong if no right line begins with the bytes up to it; the reader asks just that. The mark is spelled as any letter
+//! is, and only the text's line may hold it.
 
-use crate::letters::{members, whole};
+use crate::letters::{members, whole, MARK};
 use crate::refusals::{check_k, check_m, check_n, check_room, check_search, refuse, Refusal, MAX_SHEET};
 
 const LF: u8 = b'\n';
@@ -29,15 +30,31 @@ impl Room {
     pub const AMPLE: Room = Room { alphabet: usize::MAX, pattern: usize::MAX, text: usize::MAX };
 }
 
-/// The bytes that an alphabet may hold.
+/// The two lines that hold letters.
+#[derive(Clone, Copy, Debug, PartialEq, Eq)]
+pub enum Line {
+    Pattern,
+    Text,
+}
+
+impl Line {
+    /// A mark stands in the text alone.
+    fn may_hold(self, letter: u32) -> bool {
+        self == Line::Text || letter != MARK
+    }
+}
+
+/// The bytes that an alphabet may hold: those that spell nothing else.
 pub fn allowed(byte: u8) -> bool {
-    (32..=126).contains(&byte) && !b"[]*".contains(&byte)
+    (32..=126).contains(&byte) && !b"[]*|".contains(&byte)
 }
 
 /// How a letter is spelled. The order of the questions matters for k = 1: its one letter is its byte, not `*`.
 pub fn spelling(alphabet: &[u8], letter: u32) -> Vec<u8> {
     let bytes: Vec<u8> = members(letter).map(|b| alphabet[b as usize]).collect();
-    if bytes.len() == 1 {
+    if letter == MARK {
+        vec![b'|']
+    } else if bytes.len() == 1 {
         bytes
     } else if bytes.len() == alphabet.len() {
         vec![b'*']
@@ -46,23 +63,23 @@ pub fn spelling(alphabet: &[u8], letter: u32) -> Vec<u8> {
     }
 }
 
-/// The base letters whose bytes occur among these.
+/// The base letters whose bytes occur among these; none for `|`, which is the mark.
 fn named(alphabet: &[u8], bytes: &[u8]) -> u32 {
     (0..alphabet.len()).filter(|b| bytes.contains(&alphabet[*b])).map(|b| 1 << b).sum()
 }
 
-/// The letter that is spelled so, if there is one.
-fn spelled(alphabet: &[u8], bytes: &[u8]) -> Option<u32> {
+/// The letter of this line that is spelled so, if there is one.
+fn spelled(line: Line, alphabet: &[u8], bytes: &[u8]) -> Option<u32> {
     let whole = whole(alphabet.len() as u32);
-    [named(alphabet, bytes), whole].into_iter().find(|c| *c != 0 && spelling(alphabet, *c) == bytes)
+    [named(alphabet, bytes), whole].into_iter().find(|c| line.may_hold(*c) && spelling(alphabet, *c) == bytes)
 }
 
-/// Does the spelling of some letter begin with these bytes? Such a letter has all the members that the bytes name. If
-/// it has more than two others, it can lose one of them and still be spelled in brackets that begin so; so it is
-/// enough to ask for up to two others.
-pub fn begins_letter(alphabet: &[u8], bytes: &[u8]) -> bool {
+/// Does the spelling of some letter of this line begin with these bytes? Such a letter has all the members that the
+/// bytes name. If it has more than two others, it can lose one of them and still be spelled in brackets that begin so;
+/// so it is enough to ask for up to two others.
+pub fn begins_letter(line: Line, alphabet: &[u8], bytes: &[u8]) -> bool {
     let k = alphabet.len();
-    let begins = |letter: u32| letter != 0 && spelling(alphabet, letter).starts_with(bytes);
+    let begins = |letter: u32| line.may_hold(letter) && spelling(alphabet, letter).starts_with(bytes);
     let named = named(alphabet, bytes);
     begins(named)
         || begins(whole(k as u32))
@@ -72,23 +89,23 @@ pub fn begins_letter(alphabet: &[u8], bytes: &[u8]) -> bool {
 
 /// The letter whose spelling stands at the front, and the spelling's length. No spelling begins with another one, so
 /// there is at most one.
-fn first_letter(alphabet: &[u8], bytes: &[u8]) -> Option<(u32, usize)> {
+fn first_letter(line: Line, alphabet: &[u8], bytes: &[u8]) -> Option<(u32, usize)> {
     let longest = bytes.len().min(alphabet.len() + 1);
-    (1..=longest).find_map(|end| spelled(alphabet, &bytes[..end]).map(|letter| (letter, end)))
+    (1..=longest).find_map(|end| spelled(line, alphabet, &bytes[..end]).map(|letter| (letter, end)))
 }
 
 /// Does some right letter line begin with these bytes? A right line is any number of spellings, then LF.
-pub fn begins_letter_line(alphabet: &[u8], bytes: &[u8]) -> bool {
-    if bytes.is_empty() || bytes == [LF] || begins_letter(alphabet, bytes) {
+pub fn begins_letter_line(line: Line, alphabet: &[u8], bytes: &[u8]) -> bool {
+    if bytes.is_empty() || bytes == [LF] || begins_letter(line, alphabet, bytes) {
         return true;
     }
-    match first_letter(alphabet, bytes) {
-        Some((_, end)) => begins_letter_line(alphabet, &bytes[end..]),
+    match first_letter(line, alphabet, bytes) {
+        Some((_, end)) => begins_letter_line(line, alphabet, &bytes[end..]),
         None => false,
     }
 }
 
-/// Does some right alphabet line begin with these bytes? There are 92 allowed bytes, so what is right so far can
+/// Does some right alphabet line begin with these bytes? There are 91 allowed bytes, so what is right so far can
 /// always be brought to k different ones.
 pub fn begins_alphabet_line(k: usize, bytes: &[u8]) -> bool {
     let (front, end) = bytes.split_at(k.min(bytes.len()));
@@ -115,9 +132,9 @@ fn read_count(sheet: &[u8], at: usize) -> Result<(usize, usize), Refusal> {
 
 /// A letter line: its letters, and the place after its LF. Right letters are passed one by one, so that the question
 /// for the first wrong byte need only look at what stands after them.
-fn read_letters(alphabet: &[u8], sheet: &[u8], mut at: usize) -> Result<(Vec<u32>, usize), Refusal> {
+fn read_letters(line: Line, alphabet: &[u8], sheet: &[u8], mut at: usize) -> Result<(Vec<u32>, usize), Refusal> {
     let mut letters = Vec::new();
-    while let Some((letter, length)) = first_letter(alphabet, &sheet[at..]) {
+    while let Some((letter, length)) = first_letter(line, alphabet, &sheet[at..]) {
         letters.push(letter);
         at += length;
     }
@@ -125,7 +142,7 @@ fn read_letters(alphabet: &[u8], sheet: &[u8], mut at: usize) -> Result<(Vec<u32
     if rest.first() == Some(&LF) {
         return Ok((letters, at + 1));
     }
-    refuse(13, at + first_wrong(rest, |bytes| begins_letter_line(alphabet, bytes)))
+    refuse(13, at + first_wrong(rest, |bytes| begins_letter_line(line, alphabet, bytes)))
 }
 
 /// The reader. For each section: 11, then its count, then its line, then 14, then 8.
@@ -147,7 +164,7 @@ pub fn read(sheet: &[u8], room: Room) -> Result<Sheet, Refusal> {
     let count = line + k + 1;
     let (m, line) = read_count(sheet, count)?;
     placed(check_m(m), count)?;
-    let (pattern, after) = read_letters(&alphabet, sheet, line)?;
+    let (pattern, after) = read_letters(Line::Pattern, &alphabet, sheet, line)?;
     if pattern.len() != m {
         return refuse(14, count);
     }
@@ -156,7 +173,7 @@ pub fn read(sheet: &[u8], room: Room) -> Result<Sheet, Refusal> {
     let count = after;
     let (n, line) = read_count(sheet, count)?;
     placed(check_n(n), count)?;
-    let (text, after) = read_letters(&alphabet, sheet, line)?;
+    let (text, after) = read_letters(Line::Text, &alphabet, sheet, line)?;
     if text.len() != n {
         return refuse(14, count);
     }

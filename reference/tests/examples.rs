@@ -2,13 +2,13 @@
 
 use reference::engines::{r, search, Engine, Found, Work, ENGINES};
 use reference::first::{first, First};
-use reference::letters::{hits, meets, single};
+use reference::letters::{hits, meets, single, MARK};
 use reference::products::{from_products, product, products_meet, to_products};
 use reference::refusals::{Refusal, MAX_N};
 use reference::report::{printed, report};
 use reference::sheet::{read, write, Room};
 
-/// The letters of a line over the alphabet aen.
+/// The letters of a text's line over the alphabet aen.
 fn aen(line: &str) -> Vec<u32> {
     let sheet = |n: usize| format!("3\naen\n1\na\n{n}\n{line}\n");
     let read = |n| read(sheet(n).as_bytes(), Room::AMPLE);
@@ -59,6 +59,43 @@ fn one_letter_each() {
     assert_eq!(found(Engine::Brute, "e", "a").work, work(1, 0, 0));
 }
 
+/// What each engine, in the order of the report, is to find and to count.
+fn each_finds(pattern: &str, text: &str, hits: &[u32], works: [Work; 6]) {
+    for (engine, work) in ENGINES.into_iter().zip(works) {
+        let due = Found { hits: hits.to_vec(), work };
+        assert_eq!(found(engine, pattern, text), due, "{engine:?} {pattern} {text}");
+    }
+}
+
+#[test]
+fn a_name_that_a_mark_cuts_is_not_found() {
+    let works = [work(12, 0, 0), work(11, 0, 0), work(9, 0, 0), work(11, 0, 0), work(0, 0, 9), work(5, 0, 6)];
+    each_finds("anna", "an|naanna", &[5], works);
+}
+
+#[test]
+fn a_mark_belongs_to_no_star() {
+    let one = work(1, 0, 0);
+    each_finds("*", "|", &[], [one, one, one, one, work(0, 0, 1), one]);
+    let three = work(3, 0, 0);
+    each_finds("**", "*|*", &[], [three, three, one, three, work(0, 0, 3), work(2, 0, 1)]);
+}
+
+/// KMP carries an unsure letter on to the next start and comes to the same mark again. BM goes by R of the mark.
+#[test]
+fn a_mark_behind_unsure_letters() {
+    let works = [work(9, 0, 0), work(8, 1, 0), work(4, 0, 0), work(7, 0, 0), work(0, 0, 6), work(3, 0, 3)];
+    each_finds("aan", "[an][an]|aan", &[3], works);
+}
+
+/// The letter after the window is a mark, so that Sunday goes on by m + 1.
+#[test]
+fn sunday_goes_on_behind_a_mark() {
+    assert_eq!(found(Engine::Sunday, "an", "ee|an"), Found { hits: vec![3], work: work(3, 0, 0) });
+    assert_eq!(found(Engine::Hybrid, "an", "ee|an"), Found { hits: vec![3], work: work(2, 0, 2) });
+    assert_eq!(r(&aen("a*"), MARK), -1);
+}
+
 #[test]
 fn a_pattern_longer_than_the_text() {
     for engine in ENGINES {
@@ -79,6 +116,8 @@ fn wrong_letters() {
     for engine in ENGINES {
         assert_eq!(search(engine, 3, &[1], &[1, 2, 8]), Err(Refusal { number: 5, place: 2 }));
         assert_eq!(search(engine, 3, &[1, 0], &[1, 2, 8]), Err(Refusal { number: 4, place: 1 }));
+        assert_eq!(search(engine, 3, &[MARK], &[MARK]), Err(Refusal { number: 4, place: 0 }));
+        assert_eq!(search(engine, 3, &[1], &[MARK, MARK, 8, MARK]), Err(Refusal { number: 5, place: 2 }));
     }
 }
 
@@ -92,6 +131,9 @@ fn the_first_hit() {
         ("an", "a", None, 0),
         ("an", "", None, 0),
         ("an", "an", Some(0), 2),
+        ("anna", "an|naanna", Some(5), 12),
+        ("*", "|", None, 1),
+        ("n", "||n|", Some(2), 3),
     ];
     for (pattern, text, start, scan) in rows {
         assert_eq!(first(3, &aen(pattern), &aen(text)), Ok(First { start, scan }), "{pattern} in {text}");
@@ -99,6 +141,7 @@ fn the_first_hit() {
     // The hit at 0 is found with two tests, and the letter behind it is refused all the same.
     assert_eq!(first(3, &[1, 4], &[1, 4, 8]), Err(Refusal { number: 5, place: 2 }));
     assert_eq!(first(3, &[1, 8], &[1, 4, 8]), Err(Refusal { number: 4, place: 1 }));
+    assert_eq!(first(3, &[1, MARK], &[1, MARK]), Err(Refusal { number: 4, place: 1 }));
 }
 
 #[test]
@@ -113,12 +156,26 @@ fn products() {
     assert_eq!(from_products(3, &[6, 5, 30], 3), Ok(vec![3, 4, 7]));
     assert_eq!(products_meet(3, 6, 10), Ok(true));
     assert_eq!(products_meet(3, 6, 5), Ok(false));
-    for value in [0, 1, 4, 7] {
+    for value in [0, 4, 7] {
         assert_eq!(from_products(3, &[value], 1), Err(Refusal { number: 7, place: 0 }));
         assert_eq!(products_meet(3, value, 6), Err(Refusal { number: 7, place: 0 }));
         assert_eq!(products_meet(3, 6, value), Err(Refusal { number: 7, place: 1 }));
     }
     assert_eq!(product(0x1ff), 223_092_870);
+}
+
+#[test]
+fn the_product_of_a_mark_is_1() {
+    assert_eq!(aen("[ae]|*"), [3, MARK, 7]);
+    assert_eq!(to_products(3, &aen("[ae]|*"), 3), Ok(vec![6, 1, 30]));
+    assert_eq!(from_products(3, &[6, 1, 30], 3), Ok(aen("[ae]|*")));
+    for (a, b) in [(1, 6), (6, 1), (1, 30), (1, 1)] {
+        assert_eq!(products_meet(3, a, b), Ok(false), "{a} {b}");
+    }
+    assert_eq!(products_meet(3, 0, 1), Err(Refusal { number: 7, place: 0 }));
+    assert_eq!(products_meet(3, 1, 0), Err(Refusal { number: 7, place: 1 }));
+    assert_eq!(from_products(3, &[1, 1, 0], 3), Err(Refusal { number: 7, place: 2 }));
+    assert_eq!(to_products(3, &[MARK, 8], 2), Err(Refusal { number: 5, place: 1 }));
 }
 
 #[test]
@@ -138,7 +195,8 @@ fn limits() {
 fn meeting_is_not_transitive() {
     let (a, ae, e) = (1, 3, 2);
     assert!(meets(a, ae) && meets(ae, e) && !meets(a, e));
-    assert!(single(a) && !single(ae) && !single(0));
+    assert!(single(a) && !single(ae) && !single(MARK));
+    assert!((0..32).all(|b| !meets(1 << b, MARK)) && !meets(!0, MARK) && !meets(MARK, MARK));
 }
 
 #[test]
@@ -152,7 +210,7 @@ fn the_greatest_over_all_members_counts() {
 
 /// Sheets that are refused, with number and place. The counts stand at bytes 0, 6 and 10, the lines at 2, 8 and 12,
 /// unless an earlier part is longer or shorter.
-const REFUSED: [(&str, u32, usize); 34] = [
+const REFUSED: [(&str, u32, usize); 45] = [
     ("", 11, 0),
     ("3", 11, 0),
     ("\n", 11, 0),
@@ -165,6 +223,9 @@ const REFUSED: [(&str, u32, usize); 34] = [
     ("3\nae\n1\na\n1\na\n", 12, 4),
     ("3\naea\n1\na\n1\na\n", 12, 4),
     ("3\na*n\n1\na\n1\na\n", 12, 3),
+    ("3\na|n\n1\na\n1\na\n", 12, 3),
+    ("1\n|\n1\n|\n1\n|\n", 12, 2),
+    ("3\naen|\n1\na\n1\na\n", 12, 5),
     ("3\naenx\n1\na\n1\na\n", 12, 5),
     ("3\naen", 12, 5),
     ("3\naen\r\n1\na\n1\na\n", 12, 5),
@@ -175,6 +236,11 @@ const REFUSED: [(&str, u32, usize); 34] = [
     ("3\naen\n2\na\n1\na\n", 14, 6),
     ("3\naen\n1\naa\n1\na\n", 14, 6),
     ("3\naen\n1\nx\n1\na\n", 13, 8),
+    ("3\naen\n1\n|\n1\na\n", 13, 8),
+    ("3\naen\n9\na*|\n1\na\n", 13, 10),
+    ("3\naen\n1\n[|n]\n1\na\n", 13, 9),
+    ("3\naen\n1\n[a|n]\n1\na\n", 13, 10),
+    ("3\naen\n1\nx|\n1\na\n", 13, 8),
     ("3\naen\n1\na", 13, 9),
     ("3\naen\n1\na\n", 11, 10),
     ("3\naen\n1\na\n00\n\n", 11, 10),
@@ -185,6 +251,9 @@ const REFUSED: [(&str, u32, usize); 34] = [
     ("3\naen\n1\na\n1\n[a", 13, 14),
     ("3\naen\n1\na\n1\naa[ea]\n", 13, 16),
     ("3\naen\n1\na\n1\naa\nx", 14, 10),
+    ("3\naen\n1\na\n0\n|\n", 14, 10),
+    ("3\naen\n1\na\n2\na|a\n", 14, 10),
+    ("3\naen\n1\na\n1\n|\n|", 15, 14),
     ("3\naen\n1\na\n1\na\nx", 15, 14),
     ("3\naen\n1\na\n1\na\n\n", 15, 14),
 ];
@@ -216,6 +285,12 @@ fn refused_lines() {
         ("a", "[a]", 0),
         ("abcd", "[abcd]", 4),
         ("abcd", "[bcd][cd][d]", 10),
+        ("aen", "|[|", 2),
+        ("aen", "[a|n]", 2),
+        ("aen", "[a|]", 2),
+        ("aen", "[ae|", 3),
+        ("ae", "|[|", 1),
+        ("a", "|*", 1),
     ];
     for (alphabet, line, wrong) in rows {
         let front = format!("{}\n{alphabet}\n1\na\n1\n", alphabet.len());
@@ -228,6 +303,25 @@ fn refused_lines() {
 fn the_empty_text_has_an_empty_line() {
     let printed = String::from_utf8(printed(b"3\naen\n1\na\n0\n\n")).unwrap();
     assert_eq!(printed, "hits 0\nbrute 0 0 0\nkmp 0 0 0\nbm 0 0 0\nsunday 0 0 0\nshiftand 0 0 0\nhybrid 0 0 0\n");
+}
+
+#[test]
+fn a_text_of_marks() {
+    let sheet = write(1, b"a", &[1], &[MARK, 1, MARK, MARK], 99).unwrap();
+    assert_eq!(String::from_utf8(sheet.clone()).unwrap(), "1\na\n1\na\n4\n|a||\n");
+    assert_eq!(read(&sheet, Room::AMPLE).unwrap().text, [MARK, 1, MARK, MARK]);
+    let printed = String::from_utf8(printed(&sheet)).unwrap();
+    let works = "brute 4 0 0\nkmp 4 0 0\nbm 4 0 0\nsunday 3 0 0\nshiftand 0 0 4\nhybrid 3 0 2\n";
+    assert_eq!(printed, ["hits 1\n1\n", works].concat());
+}
+
+#[test]
+fn the_writer_takes_marks_in_the_text_alone() {
+    let refused = |alphabet: &[u8], pattern: &[u32], text: &[u32]| write(3, alphabet, pattern, text, 99).unwrap_err();
+    assert_eq!(refused(b"ae|", &[1], &[1]), Refusal { number: 12, place: 2 });
+    assert_eq!(refused(b"|*|", &[1], &[1]), Refusal { number: 12, place: 0 });
+    assert_eq!(refused(b"aen", &[1, MARK], &[8]), Refusal { number: 4, place: 1 });
+    assert_eq!(refused(b"aen", &[1], &[MARK, 8]), Refusal { number: 5, place: 1 });
 }
 
 #[test]

@@ -1,11 +1,12 @@
-//! What the rules say about themselves, tried on the reference: bounds, round trips, and the two places where the
-//! reference takes a short way round a definition.
+//! What the rules say about themselves, tried on the reference: bounds, round trips, entries that are searched apart,
+//! and the two places where the reference takes a short way round a definition.
 
 use reference::engines::{Engine, Work, ENGINES};
 use reference::first::first_hit;
-use reference::letters::{hits, meets, whole};
-use reference::products::{from_products, is_product, letter, product};
-use reference::sheet::{begins_letter, begins_letter_line, bytes, read, spelling, Room, Sheet};
+use reference::letters::{hits, meets, whole, MARK};
+use reference::products::{from_products, is_product, letter, product, products_meet};
+use reference::sheet::{begins_letter, begins_letter_line, bytes, read, spelling, Line, Room, Sheet};
+use std::collections::HashSet;
 
 /// All strings of the given length over the given elements.
 fn strings<T: Copy>(elements: &[T], length: usize) -> Vec<Vec<T>> {
@@ -18,6 +19,44 @@ fn strings<T: Copy>(elements: &[T], length: usize) -> Vec<Vec<T>> {
 
 fn up_to<T: Copy>(elements: &[T], length: usize) -> Vec<Vec<T>> {
     (0..=length).flat_map(|l| strings(elements, l)).collect()
+}
+
+/// Every letter of two base letters, and with it the mark: what a small text may hold.
+const SETS: [u32; 3] = [1, 2, 3];
+const SETS_AND_MARK: [u32; 4] = [MARK, 1, 2, 3];
+
+/// All patterns over these letters, which have one letter at least.
+fn patterns(letters: &[u32], length: usize) -> Vec<Vec<u32>> {
+    up_to(letters, length).into_iter().filter(|p| !p.is_empty()).collect()
+}
+
+/// Random numbers (splitmix64), the same ones each time.
+struct Random(u64);
+
+impl Random {
+    fn below(&mut self, bound: u64) -> u64 {
+        self.0 = self.0.wrapping_add(0x9e37_79b9_7f4a_7c15);
+        let mut z = self.0;
+        z = (z ^ (z >> 30)).wrapping_mul(0xbf58_476d_1ce4_e5b9);
+        z = (z ^ (z >> 27)).wrapping_mul(0x94d0_49bb_1331_11eb);
+        (z ^ (z >> 31)) % bound
+    }
+
+    /// So many letters of k base letters, each the whole alphabet or one or two of them.
+    fn letters(&mut self, k: u64, length: u64) -> Vec<u32> {
+        let letter = |random: &mut Random| match random.below(4) {
+            0 => whole(k as u32),
+            1 => 1 << random.below(k) | 1 << random.below(k),
+            _ => 1 << random.below(k),
+        };
+        (0..length).map(|_| letter(self)).collect()
+    }
+
+    /// The same with about one mark among so many letters.
+    fn entries(&mut self, k: u64, length: u64, every: u64) -> Vec<u32> {
+        let letters = self.letters(k, length);
+        letters.into_iter().map(|c| if self.below(every) == 0 { MARK } else { c }).collect()
+    }
 }
 
 /// The bounds that stand in the engines' paragraphs. A difference that would fall below 0 is 0.
@@ -36,25 +75,82 @@ fn bound(engine: Engine, m: u64, n: u64) -> Work {
     }
 }
 
+/// Every engine lists the hits, and keeps its bounds.
+fn runs_right(pattern: &[u32], text: &[u32]) {
+    for engine in ENGINES {
+        let found = engine.run(pattern, text);
+        let most = bound(engine, pattern.len() as u64, text.len() as u64);
+        assert_eq!(found.hits, hits(pattern, text), "{engine:?} {pattern:?} {text:?}");
+        let kept = found.work.scan <= most.scan && found.work.shift <= most.shift;
+        assert!(kept && found.work.words <= most.words, "{engine:?} {pattern:?} {text:?} {:?}", found.work);
+    }
+}
+
 #[test]
 fn every_engine_finds_the_hits_within_its_bounds() {
-    for pattern in up_to(&[1, 2, 3], 3).iter().filter(|p| !p.is_empty()) {
-        for text in &up_to(&[1, 2, 3], 6) {
-            for engine in ENGINES {
-                let found = engine.run(pattern, text);
-                let most = bound(engine, pattern.len() as u64, text.len() as u64);
-                assert_eq!(found.hits, hits(pattern, text), "{engine:?} {pattern:?} {text:?}");
-                let kept = found.work.scan <= most.scan && found.work.shift <= most.shift;
-                assert!(kept && found.work.words <= most.words, "{engine:?} {pattern:?} {text:?} {:?}", found.work);
-            }
+    let texts = up_to(&SETS_AND_MARK, 6);
+    for pattern in &patterns(&SETS, 3) {
+        texts.iter().for_each(|text| runs_right(pattern, text));
+    }
+}
+
+/// A mark ends an entry: what is found in two entries with a mark between them is what is found in the first one, and
+/// then what is found in the second one, as much further on as the first one and the mark are long.
+fn entries_are_searched_apart(pattern: &[u32], first: &[u32], second: &[u32]) {
+    let joined = [first, &[MARK], second].concat();
+    let moved = hits(pattern, second).into_iter().map(|start| start + first.len() as u32 + 1);
+    let apart: Vec<u32> = hits(pattern, first).into_iter().chain(moved).collect();
+    assert_eq!(hits(pattern, &joined), apart, "{pattern:?} {first:?} {second:?}");
+    runs_right(pattern, &joined);
+}
+
+#[test]
+fn two_small_entries() {
+    let entries = up_to(&SETS_AND_MARK, 3);
+    for pattern in &patterns(&SETS, 3) {
+        for first in &entries {
+            entries.iter().for_each(|second| entries_are_searched_apart(pattern, first, second));
         }
     }
 }
 
 #[test]
+fn two_random_entries() {
+    let mut random = Random(1);
+    for round in 0..20_000 {
+        let k = [1, 2, 3, 9, 32][round % 5];
+        let longest = if round % 50 == 0 { 64 } else { 6 };
+        let m = 1 + random.below(longest);
+        let pattern = random.letters(k, m);
+        let (a, b) = (random.below(3 * m + 9), random.below(3 * m + 9));
+        let (first, second) = (random.entries(k, a, 2 * m + 2), random.entries(k, b, 2 * m + 2));
+        entries_are_searched_apart(&pattern, &first, &second);
+    }
+}
+
+/// A name itself, cut by a mark in every place, is not found; with the mark before it or behind it, it is.
+#[test]
+fn a_mark_cuts_a_name() {
+    for pattern in patterns(&SETS, 4) {
+        for at in 0..=pattern.len() {
+            let cut = [&pattern[..at], &[MARK], &pattern[at..]].concat();
+            let due = match at {
+                0 => vec![1],
+                _ if at == pattern.len() => vec![0],
+                _ => vec![],
+            };
+            assert_eq!(hits(&pattern, &cut), due, "{pattern:?} {at}");
+            runs_right(&pattern, &cut);
+        }
+    }
+}
+
+/// Marks among single letters cost none either: the letters that have met are still single.
+#[test]
 fn single_letters_cost_no_shift_test() {
-    for pattern in up_to(&[1, 2], 4).iter().filter(|p| !p.is_empty()) {
-        for text in &up_to(&[1, 2], 8) {
+    let texts = up_to(&[MARK, 1, 2], 7);
+    for pattern in &patterns(&[1, 2], 4) {
+        for text in &texts {
             assert_eq!(Engine::Kmp.run(pattern, text).work.shift, 0);
             assert_eq!(Engine::Bm.run(pattern, text).work.shift, 0);
         }
@@ -65,9 +161,10 @@ fn single_letters_cost_no_shift_test() {
 /// Written from the pattern alone, it must give the same scan tests.
 #[test]
 fn kmp_on_single_letters_follows_the_borders() {
-    for pattern in up_to(&[1, 2], 5).iter().filter(|p| !p.is_empty()) {
+    let texts = up_to(&[MARK, 1, 2], 8);
+    for pattern in &patterns(&[1, 2], 5) {
         let border = |h: usize| (0..h).rev().find(|b| pattern[..*b] == pattern[h - *b..h]).unwrap();
-        for text in &up_to(&[1, 2], 8) {
+        for text in &texts {
             let (mut i, mut known, mut scan) = (0, 0, 0);
             while i + pattern.len() <= text.len() {
                 let h = (known..pattern.len()).find(|j| pattern[*j] != text[i + j]).unwrap_or(pattern.len());
@@ -84,11 +181,12 @@ fn kmp_on_single_letters_follows_the_borders() {
 /// by s, under its last g letters.
 #[test]
 fn bm_on_single_letters_follows_a_table() {
-    for pattern in up_to(&[1, 2, 4], 4).iter().filter(|p| !p.is_empty()) {
+    let texts = up_to(&[MARK, 1, 2, 4], 6);
+    for pattern in &patterns(&[1, 2, 4], 4) {
         let m = pattern.len();
         let agrees = |g: usize, s: usize| (m - g).max(s)..m;
         let table = |g: usize| (1..=m).find(|s| agrees(g, *s).all(|j| pattern[j - s] == pattern[j])).unwrap();
-        for text in &up_to(&[1, 2, 4], 6) {
+        for text in &texts {
             let (mut i, mut scan) = (0, 0);
             while i + m <= text.len() {
                 let g = (0..m).find(|g| pattern[m - 1 - g] != text[i + m - 1 - g]).unwrap_or(m);
@@ -115,8 +213,9 @@ fn tests_at(pattern: &[u32], text: &[u32], i: usize) -> u64 {
 
 #[test]
 fn the_first_hit_is_the_head_of_the_list() {
-    for pattern in up_to(&[1, 2, 3], 3).iter().filter(|p| !p.is_empty()) {
-        for text in &up_to(&[1, 2, 3], 6) {
+    let texts = up_to(&SETS_AND_MARK, 6);
+    for pattern in &patterns(&SETS, 3) {
+        for text in &texts {
             assert_eq!(first_hit(pattern, text).start, hits(pattern, text).first().copied(), "{pattern:?} {text:?}");
         }
     }
@@ -126,8 +225,9 @@ fn the_first_hit_is_the_head_of_the_list() {
 /// brute's count. Without a hit it is all of brute's.
 #[test]
 fn the_first_hit_counts_the_starts_up_to_it() {
-    for pattern in up_to(&[1, 2, 3], 3).iter().filter(|p| !p.is_empty()) {
-        for text in &up_to(&[1, 2, 3], 6) {
+    let texts = up_to(&SETS_AND_MARK, 6);
+    for pattern in &patterns(&SETS, 3) {
+        for text in &texts {
             let found = first_hit(pattern, text);
             let brute = |text: &[u32]| Engine::Brute.run(pattern, text).work.scan;
             match found.start.map(|s| s as usize) {
@@ -146,9 +246,9 @@ fn the_first_hit_counts_the_starts_up_to_it() {
 /// A text cut at the end of its first hit, and then every tail there: none, shorter ones, longer ones, other ones.
 #[test]
 fn the_first_hit_does_not_see_the_tail() {
-    let tails = up_to(&[1, 2, 3], 3);
-    for pattern in up_to(&[1, 2, 3], 3).iter().filter(|p| !p.is_empty()) {
-        for text in &up_to(&[1, 2, 3], 5) {
+    let (texts, tails) = (up_to(&SETS_AND_MARK, 5), up_to(&SETS_AND_MARK, 3));
+    for pattern in &patterns(&SETS, 3) {
+        for text in &texts {
             let found = first_hit(pattern, text);
             let Some(start) = found.start else { continue };
             let cut = &text[..start as usize + pattern.len()];
@@ -159,53 +259,73 @@ fn the_first_hit_does_not_see_the_tail() {
     }
 }
 
+/// What may stand in a line: the mark in the text alone.
+fn letters_of(line: Line, k: usize) -> Vec<u32> {
+    let least = if line == Line::Text { MARK } else { MARK + 1 };
+    (least..=whole(k as u32)).collect()
+}
+
 /// The reader asks only some letters whether they begin with given bytes; asking all of them gives the same answer.
 #[test]
 fn enough_letters_are_asked() {
     for alphabet in [&b"a"[..], b"ab", b"abc", b"abcd"] {
-        let letters = 1..=whole(alphabet.len() as u32);
-        let all: Vec<Vec<u8>> = letters.map(|c| spelling(alphabet, c)).collect();
-        for front in up_to(&[alphabet, b"[]*x"].concat(), alphabet.len() + 1) {
-            let asked = all.iter().any(|spelled| spelled.starts_with(&front));
-            assert_eq!(begins_letter(alphabet, &front), asked, "{alphabet:?} {front:?}");
+        let fronts = up_to(&[alphabet, b"[]*|x"].concat(), alphabet.len() + 1);
+        for line in [Line::Pattern, Line::Text] {
+            let letters = letters_of(line, alphabet.len());
+            let all: Vec<Vec<u8>> = letters.iter().map(|c| spelling(alphabet, *c)).collect();
+            for front in &fronts {
+                let asked = all.iter().any(|spelled| spelled.starts_with(front));
+                assert_eq!(begins_letter(line, alphabet, front), asked, "{line:?} {alphabet:?} {front:?}");
+            }
         }
     }
 }
 
-/// All right lines of up to three letters are written out; what begins one of them, and nothing else of that length,
+/// What begins a right line, up to four bytes of it. A front of four bytes has at most four letters, the last one
+/// perhaps not whole.
+fn fronts_of_right_lines(line: Line, alphabet: &[u8]) -> HashSet<Vec<u8>> {
+    let spelled = |letters: &Vec<u32>| -> Vec<u8> {
+        let spelled = letters.iter().flat_map(|c| spelling(alphabet, *c));
+        spelled.chain([b'\n']).collect()
+    };
+    let right = up_to(&letters_of(line, alphabet.len()), 4);
+    let right = right.iter().map(spelled);
+    right.flat_map(|l| (0..=l.len().min(4)).map(|end| l[..end].to_vec()).collect::<Vec<_>>()).collect()
+}
+
+/// All right lines of up to four letters are written out; what begins one of them, and nothing else of that length,
 /// begins a right line. The reader's refusal 13 names the first byte for which that fails.
+fn the_first_wrong_byte(line: Line, alphabet: &[u8]) {
+    let begun = fronts_of_right_lines(line, alphabet);
+    let before = if line == Line::Pattern { "\n1\n" } else { "\n1\na\n0\n" };
+    let head = [format!("{}\n", alphabet.len()).as_bytes(), alphabet, before.as_bytes()].concat();
+    for front in up_to(&[alphabet, b"[]*|\nx"].concat(), 4) {
+        assert_eq!(begins_letter_line(line, alphabet, &front), begun.contains(&front), "{line:?} {front:?}");
+        let answer = read(&[&head[..], &front].concat(), Room::AMPLE);
+        let wrong = (0..front.len()).find(|j| !begun.contains(&front[..=*j])).unwrap_or(front.len());
+        let ended = front.iter().position(|b| *b == b'\n').is_some_and(|lf| lf < wrong);
+        match answer {
+            Err(r) if r.number == 13 => assert!(!ended && r.place == head.len() + wrong, "{front:?} {r:?}"),
+            _ => assert!(ended, "{line:?} {alphabet:?} {front:?} {answer:?}"),
+        }
+    }
+}
+
 #[test]
 fn the_wrong_byte_is_the_first_one_that_no_right_line_begins_with() {
     for alphabet in [&b"a"[..], b"ab", b"abc"] {
-        let all: Vec<u32> = (1..=whole(alphabet.len() as u32)).collect();
-        let line = |letters: &Vec<u32>| -> Vec<u8> {
-            let spelled = letters.iter().flat_map(|c| spelling(alphabet, *c));
-            spelled.chain([b'\n']).collect()
-        };
-        // A front of up to four bytes has at most four letters, the last one perhaps not whole.
-        let right: Vec<Vec<u8>> = up_to(&all, 4).iter().map(line).collect();
-        let begun: std::collections::HashSet<&[u8]> =
-            right.iter().flat_map(|l| (0..=l.len().min(4)).map(move |e| &l[..e])).collect();
-        for front in up_to(&[alphabet, b"[]*\nx"].concat(), 4) {
-            assert_eq!(begins_letter_line(alphabet, &front), begun.contains(&front[..]), "{alphabet:?} {front:?}");
-            let head = [format!("{}\n", alphabet.len()).as_bytes(), alphabet, b"\n1\na\n0\n"].concat();
-            let answer = read(&[&head[..], &front].concat(), Room::AMPLE);
-            let wrong = (0..front.len()).find(|j| !begun.contains(&front[..=*j])).unwrap_or(front.len());
-            let ended = front.iter().position(|b| *b == b'\n').is_some_and(|lf| lf < wrong);
-            match answer {
-                Err(r) if r.number == 13 => assert!(!ended && r.place == head.len() + wrong, "{front:?} {r:?}"),
-                _ => assert!(ended, "{alphabet:?} {front:?} {answer:?}"),
-            }
-        }
+        the_first_wrong_byte(Line::Pattern, alphabet);
+        the_first_wrong_byte(Line::Text, alphabet);
     }
 }
 
 #[test]
 fn what_is_written_reads_back() {
     let alphabet = b"abc".to_vec();
-    for pattern in up_to(&[1, 2, 3, 4, 5, 6, 7], 2).into_iter().filter(|p| !p.is_empty()) {
-        for text in up_to(&[1, 2, 3, 4, 5, 6, 7], 3) {
-            let sheet = Sheet { alphabet: alphabet.clone(), pattern: pattern.clone(), text };
+    let texts = up_to(&letters_of(Line::Text, 3), 3);
+    for pattern in patterns(&letters_of(Line::Pattern, 3), 2) {
+        for text in &texts {
+            let sheet = Sheet { alphabet: alphabet.clone(), pattern: pattern.clone(), text: text.clone() };
             assert_eq!(read(&bytes(&sheet), Room::AMPLE), Ok(sheet));
         }
     }
@@ -214,9 +334,10 @@ fn what_is_written_reads_back() {
 #[test]
 fn products_return_unchanged() {
     for k in 1..=9 {
-        for c in 1..=whole(k) {
+        for c in MARK..=whole(k) {
             assert!(is_product(k, product(c)));
             assert_eq!(letter(product(c)), c);
+            assert_eq!(products_meet(k, product(c), product(MARK)), Ok(false));
         }
         let products: Vec<u32> = (0..100_000).filter(|v| is_product(k, *v)).collect();
         let letters = from_products(k, &products, products.len()).unwrap();

@@ -6,7 +6,7 @@
 //
 // 1. Where the table of first shifts says nothing, the paper makes a string of the text and the pattern and takes its prefix array; here the shifts are tried over the text in turn, and every test is counted.
 // 2. The paper asks for the pattern's longest suffix of single letters; here the table serves where all of the pattern is single.
-// 3. The paper's mark of an unsure text letter, once set, stays for the rest of the text, and the letter that fails sets it too; here it is asked anew at each start, of the letters that meet.
+// 3. The paper's note of an unsure text letter, once made, stays for the rest of the text, and the letter that fails makes it too; here it is asked anew at each start, of the letters that meet.
 // 4. The paper's table for the letter that fails has a row for each prefix; here R is of the whole pattern, so that the second shift may come to nothing and is made 1.
 // 5. A first shift is cut to the first start past the last.
 // 6. Whether a letter is single is asked only while all before it are, and

@@ -9,3 +9,4 @@ pub mod RunLaws
 pub mod LoopLaws
 pub mod Meaning
 pub mod HeadLaws
+pub mod MarkLaws

@@ -12,7 +12,7 @@ use lib.Dec.{leb}
 use lib.ListN.{getD}
 use Rattle.letters.proofs.Truth.{bool-cases, and-true-l, and-true-r}
 use Rattle.letters.specs.Letters.{single}
-use Rattle.hits.specs.Singles.{allSingle, unsureBelow}
+use Rattle.hits.specs.Singles.{allSingle, notSingleBelow}
 
 module _ (T : List ℕ) where
   pub singles-at : (a c j : ℕ) → allSingle T a c ≡ true → a ≤ j → j < a + c → single (getD T j 0) ≡ true
@@ -27,29 +27,29 @@ module _ (T : List ℕ) where
       below : j ≤ a + c → j ≤ a + c
       below x = x
 
-  pub unsure-le : (e : ℕ) → unsureBelow T e ≤ e
-  unfolding unsureBelow
-  unsure-le zero = zero-le
-  unsure-le (suc e) = bool-cases (single (getD T e 0)) (λ y. rw y (omega (arith, unsure-le e))) (λ n. rw n (omega arith))
+  pub below-le : (e : ℕ) → notSingleBelow T e ≤ e
+  unfolding notSingleBelow
+  below-le zero = zero-le
+  below-le (suc e) = bool-cases (single (getD T e 0)) (λ y. rw y (omega (arith, below-le e))) (λ n. rw n (omega arith))
 
-  pub unsure-yes : (e : ℕ) → single (getD T e 0) ≡ true → unsureBelow T (suc e) ≡ unsureBelow T e
-  unfolding unsureBelow
-  unsure-yes e y = rw y
+  pub below-past : (e : ℕ) → single (getD T e 0) ≡ true → notSingleBelow T (suc e) ≡ notSingleBelow T e
+  unfolding notSingleBelow
+  below-past e y = rw y
 
-  pub unsure-no : (e : ℕ) → single (getD T e 0) ≡ false → unsureBelow T (suc e) ≡ suc e
-  unfolding unsureBelow
-  unsure-no e y = rw y
+  pub below-here : (e : ℕ) → single (getD T e 0) ≡ false → notSingleBelow T (suc e) ≡ suc e
+  unfolding notSingleBelow
+  below-here e y = rw y
 
-  -- a stretch is allSingle exactly if the last unsure letter stands before it
-  pub singles-unsure : (a c : ℕ) → allSingle T a c ≡ leb (unsureBelow T (a + c)) a
+  -- a stretch is allSingle exactly if the last letter that is not single stands before it
+  pub singles-below : (a c : ℕ) → allSingle T a c ≡ leb (notSingleBelow T (a + c)) a
   unfolding allSingle
-  singles-unsure a zero = let z : a + 0 ≡ a = omega arith in rw z (sym (le-leb _ _ (unsure-le a)))
-  singles-unsure a (suc c) =
+  singles-below a zero = let z : a + 0 ≡ a = omega arith in rw z (sym (le-leb _ _ (below-le a)))
+  singles-below a (suc c) =
       let z : a + suc c ≡ suc (a + c) = omega arith in
       rw z
       (bool-cases (single (getD T (a + c) 0))
-      (λ y. rw (y, unsure-yes (a + c) y) (and-yes _ ∙ singles-unsure a c))
-      (λ n. rw (n, unsure-no (a + c) n) (and-no (allSingle T a c) ∙ sym (lt-leb (suc (a + c)) a (omega arith)))))
+      (λ y. rw (y, below-past (a + c) y) (and-yes _ ∙ singles-below a c))
+      (λ n. rw (n, below-here (a + c) n) (and-no (allSingle T a c) ∙ sym (lt-leb (suc (a + c)) a (omega arith)))))
     where
       and-yes : (b : Bool) → (b && true) ≡ b
       and-yes true = refl
@@ -86,7 +86,7 @@ module _ (T : List ℕ) (a : ℕ) where
       (λ (q : d < suc c). singles-short c d (and-true-l (allSingle T a c) _ e) (omega arith))
       (eq-or-lt-of-le l)
 
-  -- a stretch is allSingle exactly if it ends no later than the first unsure letter, or the last letter that was looked at
+  -- a stretch is allSingle exactly if it ends no later than the first letter that is not single, or the last letter that was looked at
   pub singles-upto : (c m : ℕ) → allSingle T a c ≡ true → (c < m → single (getD T (a + c) 0) ≡ false) → (h : ℕ) → h ≤ m → allSingle T a h ≡ leb h c
   singles-upto c m e stop h l =
       bool-cases (leb h c)

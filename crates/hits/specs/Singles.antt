@@ -10,7 +10,7 @@ unfoldable pub allSingle : List ℕ → ℕ → ℕ → Bool
 allSingle T a zero = true
 allSingle T a (suc c) = allSingle T a c && single (getD T (a + c) 0)
 
--- the index after the last unsure letter among the first e of T, or 0
-unfoldable pub unsureBelow : List ℕ → ℕ → ℕ
-unsureBelow T zero = 0
-unsureBelow T (suc e) = cond (single (getD T e 0)) (unsureBelow T e) (suc e)
+-- the index after the last letter that is not single, a mark too, among the first e of T; or 0
+unfoldable pub notSingleBelow : List ℕ → ℕ → ℕ
+notSingleBelow T zero = 0
+notSingleBelow T (suc e) = cond (single (getD T e 0)) (notSingleBelow T e) (suc e)

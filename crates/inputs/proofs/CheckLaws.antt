@@ -38,7 +38,7 @@ sized K M N k P T e =
 
 -- past the checks of sizes those of the letters are left
 abbrev pub lettered : ℕ → List ℕ → List ℕ → Check
-lettered k P T = refuse (someWith (bad k) P) 4 (firstWith (bad k) P) (refuse (someWith (bad k) T) 5 (firstWith (bad k) T) Passed)
+lettered k P T = refuse (someWith (bad false k) P) 4 (firstWith (bad false k) P) (refuse (someWith (bad true k) T) 5 (firstWith (bad true k) T) Passed)
 
 pub past-sizes : (K M N k : ℕ) (P T : List ℕ) → outside 1 K k ≡ false → outside 1 M (length P) ≡ false → length T ≤ N → verdict K M N k P T ≡ lettered k P T
 unfolding verdict refuse

@@ -1,6 +1,6 @@
 -- What a search refuses: checks 1, 2, 3, 4, 5, in this order, each with its number and its place.
 --
---   bad k c           c is no letter of an alphabet of k
+--   bad marks k c     c is no letter of a string over an alphabet of k, where marks may stand in it or not
 --   refuse            one check, and the checks after it
 --   verdict           the checks of a search
 --   both c c′         the checks c, and where they pass the checks c′
@@ -15,23 +15,24 @@ use Rattle.letters.specs.Sizes.{outside}
 use Rattle.inputs.specs.declared.refusal.Check.{Check}
 use Rattle.inputs.specs.declared.refusal.Check.the-variants.{Passed, Refused}
 
--- c is no letter of an alphabet of k: it is empty, or it has a bit at or above k
-unfoldable pub bad : ℕ → ℕ → Bool
-bad k c = eqb c 0 || leb (2 ^ k) c
+-- without marks: c is 0 or has a bit at or above k. With marks, 0 is one: c has such a bit
+unfoldable pub bad : Bool → ℕ → ℕ → Bool
+bad false k c = eqb c 0 || leb (2 ^ k) c
+bad true k c = leb (2 ^ k) c
 
 -- a check: where the test holds, its number and its place; else what the checks after it say
 unfoldable pub refuse : Bool → ℕ → ℕ → Check → Check
 refuse true number place c = Refused (record { number = number; place = place })
 refuse false number place c = c
 
--- K, M and N are the largest k, m and n
+-- K, M and N are the largest k, m and n. Marks may stand in the text, not in the pattern
 unfoldable pub verdict : ℕ → ℕ → ℕ → ℕ → List ℕ → List ℕ → Check
 verdict K M N k P T =
     refuse (outside 1 K k) 1 0
     (refuse (outside 1 M (length P)) 2 0
     (refuse (ltb N (length T)) 3 0
-    (refuse (someWith (bad k) P) 4 (firstWith (bad k) P)
-    (refuse (someWith (bad k) T) 5 (firstWith (bad k) T)
+    (refuse (someWith (bad false k) P) 4 (firstWith (bad false k) P)
+    (refuse (someWith (bad true k) T) 5 (firstWith (bad true k) T)
     Passed))))
 
 -- some checks, and where they pass the others

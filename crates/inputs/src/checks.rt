@@ -11,25 +11,25 @@ ghost use Prim.Native.Nat.{_≤_};
 ghost use Rattle.letters.specs.First.{firstWith, someWith};
 ghost use Rattle.inputs.specs.Refusals.{bad, verdict};
 
-// Whether c is no letter of an alphabet of k.
-pub fn is_bad(k: u32, c: u32) -> bool
+// Whether c is no letter of a string over an alphabet of k, in which marks may stand or not.
+pub fn is_bad(marks: bool, k: u32, c: u32) -> bool
     requires { do ⌜ k ≤ (← ⟦Letter::MAX_K⟧) ⌝ }
-    ensures { λ r. ⌜ r ≡ bad k c ⌝ }
+    ensures { λ r. ⌜ r ≡ bad marks k c ⌝ }
 {
     if c == 0 {
-        return true;
+        return !marks;
     }
     1u64 << k <= wide(c)
 }
 
 // The lowest index of such a letter, or the length.
-pub fn first_bad(k: u32, s: &[u32]) -> usize
+pub fn first_bad(marks: bool, k: u32, s: &[u32]) -> usize
     requires { do ⌜ k ≤ (← ⟦Letter::MAX_K⟧) ⌝ }
-    ensures { λ r. ⌜ r ≡ firstWith (bad k) (now (s .entry)) ⌝ }
+    ensures { λ r. ⌜ r ≡ firstWith (bad marks k) (now (s .entry)) ⌝ }
 {
     let mut i = 0;
     while i < s.len() {
-        if is_bad(k, s[i]) {
+        if is_bad(marks, k, s[i]) {
             return i;
         }
         i += 1;
@@ -37,23 +37,23 @@ pub fn first_bad(k: u32, s: &[u32]) -> usize
     i
 }
 
-// Whether there is such a letter: one pass without an early exit, which the compiler makes wide.
-pub fn any_bad(k: u32, s: &[u32]) -> bool
+// Whether there is such a letter: one pass without an early exit, which the compiler makes wide. Where marks may stand it is one OR a letter.
+pub fn any_bad(marks: bool, k: u32, s: &[u32]) -> bool
     requires { do ⌜ k ≤ (← ⟦Letter::MAX_K⟧) ⌝ }
-    ensures { λ r. ⌜ r ≡ someWith (bad k) (now (s .entry)) ⌝ }
+    ensures { λ r. ⌜ r ≡ someWith (bad marks k) (now (s .entry)) ⌝ }
 {
     let mut all: u32 = 0;
-    let mut empty = false;
+    let mut wrong = false;
     let mut i = 0;
     while i < s.len() {
         let c = s[i];
         all = all | c;
         if c == 0 {
-            empty = true;
+            wrong = !marks;
         }
         i += 1;
     }
-    if empty {
+    if wrong {
         return true;
     }
     1u64 << k <= wide(all)
@@ -72,11 +72,11 @@ pub fn checked(k: u32, p: &[u32], t: &[u32]) -> Check
     if Text::MAX_N < t.len() {
         return refused(3, 0);
     }
-    if any_bad(k, p) {
-        return refused(4, first_bad(k, p));
+    if any_bad(Pattern::MARKS, k, p) {
+        return refused(4, first_bad(Pattern::MARKS, k, p));
     }
-    if any_bad(k, t) {
-        return refused(5, first_bad(k, t));
+    if any_bad(Text::MARKS, k, t) {
+        return refused(5, first_bad(Text::MARKS, k, t));
     }
     Check::Passed
 }

@@ -1,4 +1,4 @@
--- What KMP's code carries from turn to turn, where the last unsure letter stands; and what it makes of what is prepared and carried. Assumes nothing.
+-- What KMP's code carries from turn to turn, where the last letter that is not single stands; and what it makes of what is prepared and carried. Assumes nothing.
 use mathlib.Core.Path.{_≡_, refl, sym, _∙_}
 use mathlib.Core.Bool.{Bool, true, false, _&&_, _||_, and-false}
 use mathlib.Core.List.{List, []}
@@ -13,43 +13,43 @@ use Rattle.letters.proofs.Truth.{bool-cases, or-false-l, or-false-r}
 use Rattle.hits.specs.Counts.{tally}
 use Rattle.hits.specs.Scans.{tests}
 use Rattle.hits.specs.Turns.{Turn}
-use Rattle.hits.specs.Singles.{allSingle, unsureBelow}
+use Rattle.hits.specs.Singles.{allSingle, notSingleBelow}
 use Rattle.hits.proofs.ScanLaws.{reach-ge, tests-le, tests-reach}
-use Rattle.hits.proofs.SingleLaws.{singles-unsure, unsure-le, unsure-yes, unsure-no}
+use Rattle.hits.proofs.SingleLaws.{singles-below, below-le, below-past, below-here}
 use Rattle.shifts.specs.Least.{least}
 use Rattle.shifts.specs.Shift.{fit, trials}
 use Rattle.pattern.proofs.EntryLaws.{sure-at, front-table}
 use Rattle.pattern.proofs.ShiftTable.{front-shift}
-use Rattle.kmp.specs.Kmp.{At, Known, KmpReady, UnsureAt, nowMet, shiftBy, shiftTests, kmpTurn}
+use Rattle.kmp.specs.Kmp.{At, Known, KmpReady, NotSingleAt, nowMet, shiftBy, shiftTests, kmpTurn}
 use Rattle.kmp.proofs.KmpLaws.{shift-is, shift-ge, shift-le, shift-end}
 
 module _ (T : List ℕ) where
-  pub unsure-begin : UnsureAt T 0 0 0
-  unsure-begin = let z = unsure-le T (0 + 0) in omega arith
+  pub not-single-begin : NotSingleAt T 0 0 0
+  not-single-begin = let z = below-le T (0 + 0) in omega arith
 
-  -- the text under the h letters is single exactly if the last unsure letter stands before i
-  single-text : (i h u : ℕ) → UnsureAt T i h u → allSingle T i h ≡ leb u i
+  -- the text under the h letters is single exactly if the last letter that is not stands before i
+  single-text : (i h u : ℕ) → NotSingleAt T i h u → allSingle T i h ≡ leb u i
   single-text i h u e =
-      singles-unsure T i h
+      singles-below T i h
       ∙ bool-cases (leb u i)
-      (λ y. let k : u ≤ i = leb-true _ _ y in le-leb (unsureBelow T (i + h)) i (omega arith) ∙ sym y)
-      (λ n. let k : i < u = leb-false _ _ n in lt-leb (unsureBelow T (i + h)) i (omega arith) ∙ sym n)
+      (λ y. let k : u ≤ i = leb-true _ _ y in le-leb (notSingleBelow T (i + h)) i (omega arith) ∙ sym y)
+      (λ n. let k : i < u = leb-false _ _ n in lt-leb (notSingleBelow T (i + h)) i (omega arith) ∙ sym n)
 
   -- a shift leaves it as it is
-  unsure-shifted : (i h u s : ℕ) → UnsureAt T i h u → 0 < s → s ≤ 1 + (h - 1) → UnsureAt T (i + s) (h - s) u
-  unsure-shifted i zero u s e a b =
+  not-single-shifted : (i h u s : ℕ) → NotSingleAt T i h u → 0 < s → s ≤ 1 + (h - 1) → NotSingleAt T (i + s) (h - s) u
+  not-single-shifted i zero u s e a b =
       let z : s ≡ 1 = omega arith in
-      let x = unsure-le T (i + 0) in
-      let y = unsure-le T (i + s + (0 - s)) in
+      let x = below-le T (i + 0) in
+      let y = below-le T (i + s + (0 - s)) in
       omega arith
-  unsure-shifted i (suc h) u s e a b = let z : i + s + (suc h - s) ≡ i + suc h = omega arith in rw z (omega arith)
+  not-single-shifted i (suc h) u s e a b = let z : i + s + (suc h - s) ≡ i + suc h = omega arith in rw z (omega arith)
 
-  -- one letter more, single or unsure
-  pub unsure-past : (i j u : ℕ) → UnsureAt T i j u → single (getD T (i + j) 0) ≡ true → UnsureAt T i (j + 1) u
-  unsure-past i j u e y = let z : i + (j + 1) ≡ suc (i + j) = omega arith in rw (z, unsure-yes T (i + j) y) e
+  -- one letter more, single or not
+  pub not-single-past : (i j u : ℕ) → NotSingleAt T i j u → single (getD T (i + j) 0) ≡ true → NotSingleAt T i (j + 1) u
+  not-single-past i j u e y = let z : i + (j + 1) ≡ suc (i + j) = omega arith in rw (z, below-past T (i + j) y) e
 
-  pub unsure-seen : (i j : ℕ) → single (getD T (i + j) 0) ≡ false → UnsureAt T i (j + 1) (i + (j + 1))
-  unsure-seen i j n = let z : i + (j + 1) ≡ suc (i + j) = omega arith in rw (z, unsure-no T (i + j) n)
+  pub not-single-seen : (i j : ℕ) → single (getD T (i + j) 0) ≡ false → NotSingleAt T i (j + 1) (i + (j + 1))
+  not-single-seen i j n = let z : i + (j + 1) ≡ suc (i + j) = omega arith in rw (z, below-here T (i + j) n)
 
 -- the shift by what is prepared and carried
 module _ {M : ℕ} {P T by : List ℕ} {sure i h u : ℕ} (pos : 0 < h) (ready : KmpReady M P by sure) (k : Known P T i h u) where
@@ -61,7 +61,7 @@ module _ {M : ℕ} {P T by : List ℕ} {sure i h u : ℕ} (pos : 0 < h) (ready :
   pattern-single = sure-at P sure (ready .prefix) h (k .short)
 
   text-single : allSingle T i h ≡ leb u i
-  text-single = single-text T i h u (k .unsure)
+  text-single = single-text T i h u (k .carried)
 
   -- where one is not, the shift is found by trying, which is not past the first start past the last, and the trials are counted
   pub tried : (s c : ℕ) → (ltb sure h || ltb i u) ≡ true → s ≡ least (fit P T i 0 h) 1 (h - 1) → c ≡ trials P T i 0 h 1 (h - 1)
@@ -124,9 +124,9 @@ module _ {P T : List ℕ} {i r h u : ℕ} (w : Known P T i r u) (e : h ≡ nowMe
   pub turn-is : {v : ℕ} → Known P T i h v → (s : ℕ) → s ≡ shiftBy P T i h → (hit : Bool) (start known scan shift : ℕ)
       → hit ≡ eqb h (length P) → start ≡ i + s → known ≡ h - s → scan ≡ tests P T i r (length P - r) → shift ≡ shiftTests P T i h
       → (_≡_ {A = Turn At} (record { found = keep hit i []; next = record { start = start; known = known }; scan = scan; shift = shift; steps = 0 })
-      (kmpTurn P T (record { start = i; known = r }))) × UnsureAt T start known v
+      (kmpTurn P T (record { start = i; known = r }))) × NotSingleAt T start known v
   unfolding kmpTurn
   turn-is {v} k s es hit start known scan shift e0 e1 e2 e3 e4 =
       let a = shift-ge P T i h in
       let b = shift-le P T i h in
-      (rw (e0, e1, e2, e3, e4, es, e), rw (e1, e2) (unsure-shifted T i h v s (k .unsure) (omega arith) (omega arith)))
+      (rw (e0, e1, e2, e3, e4, es, e), rw (e1, e2) (not-single-shifted T i h v s (k .carried) (omega arith) (omega arith)))

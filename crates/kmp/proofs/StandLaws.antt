@@ -13,9 +13,9 @@ use Rattle.hits.specs.Counts.{tally, noted, workOf}
 use Rattle.hits.specs.declared.work.Work.{Work}
 use Rattle.hits.proofs.LoopLaws.{SoFar, start, pass-one, kept, total-le, next-scan-le, next-shift-le, end-list, end-work}
 use Rattle.kmp.specs.declared.KmpTurned.{KmpTurned}
-use Rattle.kmp.specs.Kmp.{At, Known, UnsureAt, kmpMore, kmpTurn, kmpRun, kmpTurnOf}
+use Rattle.kmp.specs.Kmp.{At, Known, NotSingleAt, kmpMore, kmpTurn, kmpRun, kmpTurnOf}
 use Rattle.kmp.proofs.KmpLaws.{sound, goes-on}
-use Rattle.kmp.proofs.CarryLaws.{unsure-begin}
+use Rattle.kmp.proofs.CarryLaws.{not-single-begin}
 
 abbrev at : ℕ → ℕ → At
 at i r = record { start = i; known = r }
@@ -25,11 +25,11 @@ pub record KmpStanding (P T d : List ℕ) (m n i r u : ℕ) (list : List ℕ) (w
   pub pattern : m ≡ length P
   pub text : n ≡ length T
   pub top : i ≤ n + 1
-  pub unsure : UnsureAt T i r u
+  pub carried : NotSingleAt T i r u
   pub so-far : SoFar (sound P T) d (at i r) list w
 
 pub stand : (P T d : List ℕ) → KmpStanding P T d (length P) (length T) 0 0 0 d (record { total = 0; scan = 0; shift = 0; steps = 0 })
-stand P T d = record { pattern = refl; text = refl; top = omega arith; unsure = unsure-begin T; so-far = start (sound P T) d }
+stand P T d = record { pattern = refl; text = refl; top = omega arith; carried = not-single-begin T; so-far = start (sound P T) d }
 
 module _ {P T d : List ℕ} {m n i r u : ℕ} {list : List ℕ} {w : Work} (h : KmpStanding P T d m n i r u list w) where
   pub same-room : length list ≡ length d
@@ -47,7 +47,7 @@ module _ {P T d : List ℕ} {m n i r u : ℕ} {list : List ℕ} {w : Work} (h : 
 
     pub known : Known P T i r u
     unfolding sound
-    known = record { inside = inside; short = h .so-far .fine .short; meet = h .so-far .fine .known-met inside; unsure = h .unsure }
+    known = record { inside = inside; short = h .so-far .fine .short; meet = h .so-far .fine .known-met inside; carried = h .carried }
 
     -- a pass of the loop: what the step answered is the turn there
     module _ (x : KmpTurned) (q : kmpTurnOf i x ≡ kmpTurn P T (at i r)) where
@@ -64,7 +64,7 @@ module _ {P T d : List ℕ} {m n i r u : ℕ} {list : List ℕ} {w : Work} (h : 
       on = rw (ap (λ (y : Turn At). y .next .start) q) (goes-on P T (at i r) (h .so-far .fine) inside)
 
       -- the hit is noted, the tests are added, and the loop stands at the next start
-      pub move : UnsureAt T (x .start) (x .known) (x .unsure) → (list′ : List ℕ) (w′ : Work) → list′ ≡ noted (x .hit) list (w .total) i → w′ .total ≡ w .total + tally (x .hit)
+      pub move : NotSingleAt T (x .start) (x .known) (x .unsure) → (list′ : List ℕ) (w′ : Work) → list′ ≡ noted (x .hit) list (w .total) i → w′ .total ≡ w .total + tally (x .hit)
           → w′ .scan ≡ w .scan + x .scan → w′ .shift ≡ w .shift + x .shift → w′ .steps ≡ w .steps
           → KmpStanding P T d m n (x .start) (x .known) (x .unsure) list′ w′
       move v list′ w′ el et sc sh st =
@@ -72,7 +72,7 @@ module _ {P T d : List ℕ} {m n i r u : ℕ} {list : List ℕ} {w : Work} (h : 
             pattern = h .pattern;
             text = h .text;
             top = omega (arith, on, h .text);
-            unsure = v;
+            carried = v;
             so-far =
                 pass-one (sound P T) d (at i r) list w (h .so-far) goes (at (x .start) (x .known)) list′ w′ (x .hit) i
                 (ap (λ (y : Turn At). y .next) q)

@@ -9,7 +9,7 @@
 -- And of the code:
 --
 --   kmpTurnOf i r           the turn that a step of the code at start i stands for
---   UnsureAt T i r u        u tells where the last unsure text letter that met stands
+--   NotSingleAt T i r u     u tells where the last text letter that is not single stands
 --   Known P T i r u         what the code holds at start i
 --   KmpReady M P by sure    what it holds of the pattern
 use Prim.Native.Nat.{ℕ, suc, _+_, _-_, _≤_, max}
@@ -23,7 +23,7 @@ use Rattle.letters.specs.Sizes.{SizedPattern}
 use Rattle.hits.specs.Hits.{met, within}
 use Rattle.hits.specs.Scans.{reach, tests}
 use Rattle.hits.specs.Turns.{Turn, Run, run}
-use Rattle.hits.specs.Singles.{allSingle, unsureBelow}
+use Rattle.hits.specs.Singles.{allSingle, notSingleBelow}
 use Rattle.shifts.specs.Least.{least}
 use Rattle.shifts.specs.Shift.{fit, trials}
 use Rattle.pattern.specs.Tables.{surePrefix, frontShifts}
@@ -75,9 +75,9 @@ abbrev pub kmpTurnOf : ℕ → KmpTurned → Turn At
 kmpTurnOf i r =
     record { found = keep (r .hit) i []; next = record { start = r .start; known = r .known }; scan = r .scan; shift = r .shift; steps = 0 }
 
--- u tells where, from i on, the last unsure letter among the first i + r of T stands: the index after it; at or below i, there is none
-abbrev pub UnsureAt : List ℕ → ℕ → ℕ → ℕ → Type 0
-UnsureAt T i r u = max u i ≡ max (unsureBelow T (i + r)) i
+-- u tells where, from i on, the last letter that is not single among the first i + r of T stands: the index after it; at or below i, there is none
+abbrev pub NotSingleAt : List ℕ → ℕ → ℕ → ℕ → Type 0
+NotSingleAt T i r u = max u i ≡ max (notSingleBelow T (i + r)) i
 
 -- what the code holds of a pattern P within its limit M: the length of its single prefix, and its own shifts
 pub record KmpReady (M : ℕ) (P by : List ℕ) (sure : ℕ) : Type 0 where
@@ -90,4 +90,4 @@ pub record Known (P T : List ℕ) (i r u : ℕ) : Type 0 where
   pub inside : i + length P ≤ length T
   pub short : r ≤ length P
   pub meet : met P T i 0 r ≡ true
-  pub unsure : UnsureAt T i r u
+  pub carried : NotSingleAt T i r u

@@ -37,7 +37,7 @@ ghost use Rattle.hits.specs.Hits.{hits};
 ghost use Rattle.lent.specs.Over.{over};
 ghost use Rattle.hits.specs.Counts.{workOf};
 ghost use Rattle.inputs.specs.Answers.{Searched, scanOf, shiftOf};
-ghost use Rattle.kmp.specs.Kmp.{Known, KmpReady, UnsureAt, nowMet, shiftBy, shiftTests, kmpTurn, kmpRun, kmpTurnOf};
+ghost use Rattle.kmp.specs.Kmp.{Known, KmpReady, NotSingleAt, nowMet, shiftBy, shiftTests, kmpTurn, kmpRun, kmpTurnOf};
 
 struct KmpTurned {
     hit: bool,
@@ -122,7 +122,7 @@ fn step(
     u: usize,
 ) -> KmpTurned
     requires { do ⌜ KmpReady (← ⟦Pattern::MAX_M⟧) (now p) (now by) sure × Known (now p) (now t) i r u ⌝ }
-    ensures { λ s. ⌜ (kmpTurnOf i s ≡ kmpTurn (now (p .entry)) (now (t .entry)) (record { start = i; known = r })) × UnsureAt (now (t .entry)) (s .start) (s .known) (s .unsure) ⌝ }
+    ensures { λ s. ⌜ (kmpTurnOf i s ≡ kmpTurn (now (p .entry)) (now (t .entry)) (record { start = i; known = r })) × NotSingleAt (now (t .entry)) (s .start) (s .known) (s .unsure) ⌝ }
 {
     let m = p.len();
     let c = scan_on(p, t, i, r, u);

@@ -1,18 +1,18 @@
--- Laws of letters: what meeting means, that it is symmetric and not transitive, and what single means. Assumes nothing.
+-- Laws of letters: what meeting means, that it is symmetric and not transitive, what single and unsure mean, and that a letter is the mark, single or unsure. Assumes nothing.
 use mathlib.Core.Path.{_≡_, refl, sym, ap, _∙_, subst}
-use mathlib.Core.Bool.{true, false, not}
+use mathlib.Core.Bool.{Bool, true, false, not}
 use mathlib.Core.Logic.{_⊎_, inl, inr, ⊎-elim}
 use Prim.Native.Nat.{ℕ, zero, suc, _/_, _%_, _^_, _≤_, _<_}
-use native.Mathlib.Nat.{eq-zero-or-pos, pow-suc}
+use native.Mathlib.Nat.{eq-zero-or-pos, eq-or-lt-of-le, pow-suc}
 use native.Mathlib.Omega.{arith}
-use borrow.Author.Tests.{eq-eqb, ne-eqb, eqb-true, eqb-false, not-true, leb-true, leb-false}
+use borrow.Author.Tests.{eq-eqb, ne-eqb, eqb-true, eqb-false, not-true, leb-true, leb-false, le-leb, lt-leb}
 use lib.Arith.{lt-one}
 use lib.Bits.{bitAnd, and-comm, and-zero-r}
 use lib.Count.{ones, ones-step}
-use lib.Dec.{leb}
+use lib.Dec.{eqb, leb}
 use lib.Pow.{pow-pos}
 use Rattle.letters.specs.Digits.{digit}
-use Rattle.letters.specs.Letters.{member, shared, meets, single}
+use Rattle.letters.specs.Letters.{member, shared, meets, single, unsure}
 use Rattle.letters.proofs.Truth.{bool-cases, both-ways}
 use Rattle.letters.proofs.DigitLaws.{digit-lt, digit-zero, digit-and, digit-above, digit-ext, digits-same, some-digit, below-power}
 
@@ -62,7 +62,7 @@ some-meets a b c x y =
     let m = member-digit c (shared a b) (member-shared a b c x y) in
     ap not (ne-eqb (shared a b) 0 (λ z. let d = ap (digit c) z ∙ digit-zero c in omega arith))
 
--- the empty letter meets nothing
+-- the entry mark meets nothing
 pub none-meets : (a : ℕ) → meets a 0 ≡ false
 unfolding meets shared
 none-meets a = rw (and-zero-r a)
@@ -165,6 +165,58 @@ one-single c b o = eq-eqb _ _ (go c c b (below-power c) (member-digit b c (o .ha
         let s = ones-step x in
         let ih = go k (x / 2) b (omega arith) m (λ j g. let e = u (suc j) g in omega arith) in
         ⊎-elim (λ (z : x % 2 ≡ 0). omega arith) (λ (g : 0 < x % 2). absurd (let e : 0 ≡ suc b = u 0 (omega arith) in omega arith)) (eq-zero-or-pos (x % 2))
+
+-- a letter is unsure exactly if it has two members
+pub record Two (c a b : ℕ) : Type 0 where
+  pub one : member a c ≡ true
+  pub other : member b c ≡ true
+  pub differ : a ≡ b → ⊥
+
+pub unsure-two : (c : ℕ) → unsure c ≡ true → (a : ℕ) × (b : ℕ) × Two c a b
+unfolding unsure digit
+unsure-two c e =
+    let w = go c c (below-power c) (leb-true _ _ e) in
+    (w .0, w .1, record { one = digit-member (w .0) c (w .2); other = digit-member (w .1) c (w .3); differ = w .4 })
+  where
+    go : (k x : ℕ) → x < 2 ^ k → 2 ≤ ones x → (a : ℕ) × (b : ℕ) × (digit a x ≡ 1) × (digit b x ≡ 1) × (a ≡ b → ⊥)
+    go zero x h e = absurd (let z = ap ones (lt-one h) in let s = ones-zero in omega arith)
+    go (suc k) x h e =
+        let s = ones-step x in
+        let p = pow-suc 2 k in
+        ⊎-elim
+        (λ (q : x % 2 ≡ 0). let ih = go k (x / 2) (omega arith) (omega arith) in (suc (ih .0), suc (ih .1), ih .2, ih .3, λ z. ih .4 (omega arith)))
+        (λ (q : 0 < x % 2). let w = some-digit k (x / 2) (omega arith) (λ z. let n = ap ones z in let t = ones-zero in omega arith) in
+        (0, suc (w .0), omega arith, w .2, λ z. omega arith))
+        (eq-zero-or-pos (x % 2))
+
+-- which of the three a letter is
+pub record Kind (mark one more : Bool) (c : ℕ) : Type 0 where
+  pub empty : eqb c 0 ≡ mark
+  pub alone : single c ≡ one
+  pub several : unsure c ≡ more
+
+-- every letter is exactly one of these: the entry mark, single, unsure
+pub kind : (c : ℕ) → Kind true false false c ⊎ (Kind false true false c ⊎ Kind false false true c)
+unfolding single unsure
+kind c =
+    ⊎-elim
+    (λ (z : ones c ≡ 0).
+    let n = ones-none c c (below-power c) z in
+    inl (record { empty = eq-eqb c 0 n; alone = ne-eqb (ones c) 1 (λ q. omega arith); several = lt-leb 2 (ones c) (omega arith) }))
+    (λ (p : 0 < ones c).
+    let some : eqb c 0 ≡ false = ne-eqb c 0 (λ n. let q = ap ones n in let t = ones-zero in omega arith) in
+    inr (⊎-elim
+    (λ (q : 1 ≡ ones c). inl (record { empty = some; alone = eq-eqb (ones c) 1 (sym q); several = lt-leb 2 (ones c) (omega arith) }))
+    (λ (q : 1 < ones c). inr (record { empty = some; alone = ne-eqb (ones c) 1 (λ z. omega arith); several = le-leb 2 (ones c) (omega arith) }))
+    (eq-or-lt-of-le p)))
+    (eq-zero-or-pos (ones c))
+
+pub two-unsure : (c a b : ℕ) → Two c a b → unsure c ≡ true
+two-unsure c a b t =
+    ⊎-elim
+    (λ (m : Kind true false false c). absurd (let z = eqb-true c 0 (m .empty) in let d = ap (digit a) z ∙ digit-zero a in let o = member-digit a c (t .one) in omega arith))
+    (λ w. ⊎-elim (λ (s : Kind false true false c). let o = single-one c (s .alone) in absurd (t .differ (o .1 .only a (t .one) ∙ sym (o .1 .only b (t .other))))) (λ (u : Kind false false true c). u .several) w)
+    (kind c)
 
 -- Two single letters that meet are equal. It stands in for transitivity: where the letter in the middle is single, meeting it is holding its member
 pub single-same : (a b : ℕ) → single a ≡ true → single b ≡ true → meets a b ≡ true → a ≡ b

@@ -21,18 +21,21 @@ pub record Plain (b : ℕ) : Type 0 where
   pub no-open : b ≡ 91 → ⊥
   pub no-close : b ≡ 93 → ⊥
   pub no-star : b ≡ 42 → ⊥
+  pub no-mark : b ≡ 124 → ⊥
 
 pub is-plain : (b : ℕ) → plain b ≡ true → Plain b
 unfolding plain
 is-plain b e =
-    let e4 = and-true-l (leb 32 b && leb b 126 && not (eqb b 91) && not (eqb b 93)) (not (eqb b 42)) e in
+    let e5 = and-true-l (leb 32 b && leb b 126 && not (eqb b 91) && not (eqb b 93) && not (eqb b 42)) (not (eqb b 124)) e in
+    let e4 = and-true-l (leb 32 b && leb b 126 && not (eqb b 91) && not (eqb b 93)) (not (eqb b 42)) e5 in
     let e3 = and-true-l (leb 32 b && leb b 126 && not (eqb b 91)) (not (eqb b 93)) e4 in
     let e2 = and-true-l (leb 32 b && leb b 126) (not (eqb b 91)) e3 in
     record {
       low = leb-true 32 b (and-true-l (leb 32 b) (leb b 126) e2);
       no-open = eqb-false b 91 (not-true (eqb b 91) (and-true-r (leb 32 b && leb b 126) (not (eqb b 91)) e3));
       no-close = eqb-false b 93 (not-true (eqb b 93) (and-true-r (leb 32 b && leb b 126 && not (eqb b 91)) (not (eqb b 93)) e4));
-      no-star = eqb-false b 42 (not-true (eqb b 42) (and-true-r (leb 32 b && leb b 126 && not (eqb b 91) && not (eqb b 93)) (not (eqb b 42)) e));
+      no-star = eqb-false b 42 (not-true (eqb b 42) (and-true-r (leb 32 b && leb b 126 && not (eqb b 91) && not (eqb b 93)) (not (eqb b 42)) e5));
+      no-mark = eqb-false b 124 (not-true (eqb b 124) (and-true-r (leb 32 b && leb b 126 && not (eqb b 91) && not (eqb b 93) && not (eqb b 42)) (not (eqb b 124)) e));
     }
 
 -- a byte that is not plain is no letter

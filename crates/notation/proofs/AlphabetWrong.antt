@@ -1,4 +1,4 @@
--- The place of a wrong alphabet line is the first wrong byte: 92 bytes are plain, enough to fill up any alphabet of so many letters. Assumes nothing.
+-- The place of a wrong alphabet line is the first wrong byte: 91 bytes are plain, enough to fill up any alphabet of so many letters. Assumes nothing.
 use mathlib.Core.Path.{_≡_, refl, sym, ap, ap₂, _∙_, subst}
 use mathlib.Core.Bool.{false, cond}
 use mathlib.Core.List.{List, [], _∷_, _++_, append-assoc, append-nil}
@@ -64,9 +64,9 @@ free-snoc A x b (suc n) =
     (λ e. let ih = free-snoc A x (suc b) n in
     rw (e, fresh-snoc A x b (eqb-false b x e)) (bool-cases (fresh A b) (λ f. rw f (omega arith)) (λ f. rw f ih)))
 
--- 92 bytes are plain, and each byte before takes at most one of them
+-- 91 bytes are plain, and each byte before takes at most one of them
 abbrev Many : List ℕ → Type 0
-Many before = 92 ≤ free before 0 128 + length before
+Many before = 91 ≤ free before 0 128 + length before
 
 many-none : Many []
 unfolding free fresh plain firstWith
@@ -81,7 +81,7 @@ record Grown (before : List ℕ) (k : ℕ) : Type 0 where
   size : length bytes ≡ k
   right : Alphabet (before ++ bytes)
 
-grow : (k : ℕ) (before : List ℕ) → Alphabet before → Many before → length before + k ≤ 92 → Grown before k
+grow : (k : ℕ) (before : List ℕ) → Alphabet before → Many before → length before + k ≤ 91 → Grown before k
 grow zero before al m h = record { bytes = []; size = refl; right = subst Alphabet (sym (append-nil before)) al }
 grow (suc k) before al m h =
     let f = some-free before 0 128 (omega arith) in
@@ -104,7 +104,7 @@ record Stuck (before : List ℕ) (k at : ℕ) (s : List ℕ) (q : ℕ) : Type 0 
 here : (before : List ℕ) (k at : ℕ) (s : List ℕ) (q : ℕ) → Grown before k → q ≡ at → (0 < length s → (v : List ℕ) → freshFrom before k at (take 1 s ++ v) ≡ Wrong q) → Stuck before k at s q
 here before k at s q g e f = record { far = 0; place = omega arith; within = zero-le; rest = g .bytes; bytes = g .bytes; size = g .size; right = g .right; front = refl; refused = f }
 
-stuck : (before : List ℕ) (k at : ℕ) (s : List ℕ) (q : ℕ) → Alphabet before → Many before → length before + k ≤ 92 → freshFrom before k at s ≡ Wrong q → Stuck before k at s q
+stuck : (before : List ℕ) (k at : ℕ) (s : List ℕ) (q : ℕ) → Alphabet before → Many before → length before + k ≤ 91 → freshFrom before k at s ≡ Wrong q → Stuck before k at s q
 unfolding freshFrom
 stuck before zero at s q al m h e = absurd (let z : _≡_ {A = ℕ} 0 1 = cc in omega arith)
 stuck before (suc k) at [] q al m h e = here before (suc k) at [] q (grow (suc k) before al m h) (cc) (λ l. absurd (omega arith))
@@ -173,7 +173,7 @@ unended k at s f q h e =
     }
 
 -- a refusal names the first wrong byte
-pub alphabet-first-wrong : (k at : ℕ) (s : List ℕ) (q : ℕ) → k ≤ 92 → alphabetAt k at s ≡ Wrong q → (far : ℕ) × (q ≡ at + far) × FirstWrong (AlphabetLine k) s far
+pub alphabet-first-wrong : (k at : ℕ) (s : List ℕ) (q : ℕ) → k ≤ 91 → alphabetAt k at s ≡ Wrong q → (far : ℕ) × (q ≡ at + far) × FirstWrong (AlphabetLine k) s far
 unfolding alphabetAt
 alphabet-first-wrong k at s q h e = go (freshFrom [] k at s) refl e
   where

@@ -1,5 +1,6 @@
 -- What the definitions mean: an alphabet has no byte twice, and the reader answers what the right lines alone decide. Assumes nothing.
 use mathlib.Core.Path.{_≡_, refl, ap, subst}
+use mathlib.Core.Bool.{Bool}
 use mathlib.Core.List.{List, [], _∷_, _++_}
 use Prim.Native.Nat.{ℕ, zero, suc, _+_, _≤_, _<_}
 use native.Mathlib.Omega.{arith}
@@ -37,11 +38,11 @@ different-differ A d i h =
     (λ e. let l = ltb-true (find A (getD A i 0)) i e in absurd (d (find A (getD A i 0)) i l h (find-hit A (getD A i 0) (omega arith))))
     (λ e. let l = ltb-false (find A (getD A i 0)) i e in omega arith)
 
-abbrev pub Means : List ℕ → List ℕ → Read → Type 0
-Means A s (got cs e) = AllProper (length A) cs × ((r : List ℕ) × (s ≡ line A cs ++ r))
-Means A s (wrong p) = FirstWrong (LetterLine A) s p
+abbrev pub Means : Bool → List ℕ → List ℕ → Read → Type 0
+Means marks A s (got cs e) = AllProper marks (length A) cs × ((r : List ℕ) × (s ≡ line A cs ++ r))
+Means marks A s (wrong p) = FirstWrong (LetterLine marks A) s p
 
 -- the reader's answer is determined by the right lines alone
-pub read-meaning : (A : List ℕ) → Alphabet A → (s : List ℕ) → (r : Read) → readFrom A out 0 s ≡ r → Means A s r
-read-meaning A al s (got cs e) q = let w = read-line A s 0 cs e q in (w .0, (w .1 .0, w .1 .1))
-read-meaning A al s (wrong p) q = let w = first-wrong A al s 0 p q in subst (FirstWrong (LetterLine A) s) (let z : w .0 ≡ p = omega (arith, w .1) in z) (w .2)
+pub read-meaning : (marks : Bool) (A : List ℕ) → Alphabet A → (s : List ℕ) → (r : Read) → readFrom marks A out 0 s ≡ r → Means marks A s r
+read-meaning marks A al s (got cs e) q = let w = read-line marks A s 0 cs e q in (w .0, (w .1 .0, w .1 .1))
+read-meaning marks A al s (wrong p) q = let w = first-wrong marks A al s 0 p q in subst (FirstWrong (LetterLine marks A) s) (let z : w .0 ≡ p = omega (arith, w .1) in z) (w .2)

@@ -16,7 +16,7 @@ use Rattle.notation.specs.Spelling.{pick, spell, line, Proper, AllProper
 use Rattle.notation.specs.Reader.{out, inside, end, to, letter, mayFollow, inner, byteMove, got, more, readFrom}
 use Rattle.notation.proofs.PickLaws.{parity, pick-zero, pick-odd, pick-even, pick-none, pick-one, pick-full, length-pick}
 use Rattle.notation.proofs.AlphabetLaws.{is-plain, strange}
-use Rattle.notation.proofs.SpellLaws.{spell-one, spell-all, spell-part}
+use Rattle.notation.proofs.SpellLaws.{spell-none, spell-one, spell-all, spell-part}
 use Rattle.notation.proofs.ReadLaws.{read-on}
 
 val-odd : (p x : ℕ) → x % 2 ≡ 1 → p * x ≡ p + p * 2 * (x / 2)
@@ -34,31 +34,35 @@ or-true : (a b : Bool) → ((a ≡ false) → b ≡ true) → (a || b) ≡ true
 or-true true b f = refl
 or-true false b f = f refl
 
-module _ (A : List ℕ) (al : Alphabet A) where
+module _ (marks : Bool) (A : List ℕ) (al : Alphabet A) where
   -- what the bytes of a spelling do
-  move-lf : byteMove A out 10 ≡ end
+  move-lf : byteMove marks A out 10 ≡ end
   unfolding byteMove
   move-lf = refl
 
-  move-single : (j : ℕ) → j < length A → byteMove A out (getD A j 0) ≡ letter (2 ^ j)
+  move-single : (j : ℕ) → j < length A → byteMove marks A out (getD A j 0) ≡ letter (2 ^ j)
   unfolding byteMove
   move-single j h =
       let p = is-plain _ (al .bytes j h) in
       rw (ne-eqb (getD A j 0) 10 (λ e. omega (arith, p .low)), al .differ j h, lt-ltb j (length A) h)
 
-  move-star : 2 ≤ length A → byteMove A out 42 ≡ letter (2 ^ length A - 1)
+  move-star : 2 ≤ length A → byteMove marks A out 42 ≡ letter (2 ^ length A - 1)
   unfolding byteMove
   move-star h = rw (le-ltb (find A 42) (length A) (strange A al 42 (λ p. p .no-star refl)), le-leb 2 (length A) h)
 
-  move-open : 3 ≤ length A → byteMove A out 91 ≡ to (inside 0 0 0)
+  move-open : 3 ≤ length A → byteMove marks A out 91 ≡ to (inside 0 0 0)
   unfolding byteMove
   move-open h = rw (le-ltb (find A 91) (length A) (strange A al 91 (λ p. p .no-open refl)), le-leb 3 (length A) h)
 
-  move-close : (S t n : ℕ) → 2 ≤ n → byteMove A (inside S t n) 93 ≡ letter S
+  move-mark : marks ≡ true → byteMove marks A out 124 ≡ letter 0
+  unfolding byteMove
+  move-mark m = rw (le-ltb (find A 124) (length A) (strange A al 124 (λ p. p .no-mark refl)), m)
+
+  move-close : (S t n : ℕ) → 2 ≤ n → byteMove marks A (inside S t n) 93 ≡ letter S
   unfolding byteMove inner
   move-close S t n h = rw (le-leb 2 n h)
 
-  move-member : (S t n j : ℕ) → j < length A → t ≤ j → suc n < length A → (n < 1 → suc j < length A) → byteMove A (inside S t n) (getD A j 0) ≡ to (inside (S + 2 ^ j) (suc j) (suc n))
+  move-member : (S t n j : ℕ) → j < length A → t ≤ j → suc n < length A → (n < 1 → suc j < length A) → byteMove marks A (inside S t n) (getD A j 0) ≡ to (inside (S + 2 ^ j) (suc j) (suc n))
   unfolding byteMove inner mayFollow
   move-member S t n j h l m f =
       let p = is-plain _ (al .bytes j h) in
@@ -67,12 +71,12 @@ module _ (A : List ℕ) (al : Alphabet A) where
   -- the members from t on, x of them, then the closer
   members : (m t : ℕ) → t + m ≡ length A → (S n u x at : ℕ) (rest : List ℕ) → u ≤ t → x < 2 ^ m
       → 2 ≤ n + length (pick (drop t A) x) → n + length (pick (drop t A) x) < length A
-      → readFrom A (inside S u n) at (pick (drop t A) x ++ (93 ∷ rest)) ≡ more (S + 2 ^ t * x) (readFrom A out (suc (at + length (pick (drop t A) x))) rest)
+      → readFrom marks A (inside S u n) at (pick (drop t A) x ++ (93 ∷ rest)) ≡ more (S + 2 ^ t * x) (readFrom marks A out (suc (at + length (pick (drop t A) x))) rest)
   members zero t q S n u x at rest l h two part =
       let z : x ≡ 0 = omega arith in
       let e : pick (drop t A) x ≡ [] = ap (pick (drop t A)) z ∙ pick-zero (drop t A) in
       let two' : 2 ≤ n = omega (arith, ap length e) in
-      rw (e, z, mul-zero (2 ^ t), add-zero S, add-zero at) (read-on A (inside S u n) at 93 rest _ (move-close S u n two'))
+      rw (e, z, mul-zero (2 ^ t), add-zero S, add-zero at) (read-on marks A (inside S u n) at 93 rest _ (move-close S u n two'))
   members (suc m) t q S n u x at rest l h two part =
       let i : t < length A = omega arith in
       let d = drop-cons A t 0 i in
@@ -87,44 +91,50 @@ module _ (A : List ℕ) (al : Alphabet A) where
       let v : S + 2 ^ t + 2 ^ suc t * y ≡ S + 2 ^ t * x = omega (arith, val-odd (2 ^ t) x o, ap (λ (z : ℕ). z * y) (pow-suc 2 t)) in
       let a : suc (suc at + length w) ≡ suc (at + suc (length w)) = omega arith in
       rw e
-      (read-on A (inside S u n) at (getD A t 0) (w ++ (93 ∷ rest)) _ (move-member S u n t i l (omega arith) (λ z. omega arith)) ∙ ih
-      ∙ ap₂ (λ (z b : ℕ). more z (readFrom A out b rest)) v a))
+      (read-on marks A (inside S u n) at (getD A t 0) (w ++ (93 ∷ rest)) _ (move-member S u n t i l (omega arith) (λ z. omega arith)) ∙ ih
+      ∙ ap₂ (λ (z b : ℕ). more z (readFrom marks A out b rest)) v a))
       (λ o. let e : pick (drop t A) x ≡ w = ap (λ (R : List ℕ). pick R x) d ∙ pick-even (getD A t 0) (drop (suc t) A) x o in
       let le = ap length e in
       let ih = members m (suc t) (omega arith) S n u y at rest (omega arith) (omega arith) (omega arith) (omega arith) in
       let v : S + 2 ^ suc t * y ≡ S + 2 ^ t * x = omega (arith, val-even (2 ^ t) x o, ap (λ (z : ℕ). z * y) (pow-suc 2 t)) in
-      rw e (ih ∙ ap (λ (z : ℕ). more z (readFrom A out (suc (at + length w)) rest)) v))
+      rw e (ih ∙ ap (λ (z : ℕ). more z (readFrom marks A out (suc (at + length w)) rest)) v))
 
   -- a letter that was spelled is read
-  pub letter-read : (c at : ℕ) (rest : List ℕ) → Proper (length A) c → readFrom A out at (spell A c ++ rest) ≡ more c (readFrom A out (at + length (spell A c)) rest)
+  pub letter-read : (c at : ℕ) (rest : List ℕ) → Proper marks (length A) c → readFrom marks A out at (spell A c ++ rest) ≡ more c (readFrom marks A out (at + length (spell A c)) rest)
   letter-read c at rest pc =
+      bool-cases (eqb (length (pick A c)) 0)
+      (λ e. let none = eqb-true (length (pick A c)) 0 e in
+      let z : c ≡ 0 = pick-none A c (pc .1) none in
+      rw (spell-none A c none)
+      (read-on marks A out at 124 rest _ (move-mark (pc .0 z)) ∙ ap₂ (λ (y b : ℕ). more y (readFrom marks A out b rest)) (sym z) (sym (add-one at))))
+      (λ e. let some = eqb-false (length (pick A c)) 0 e in
       bool-cases (eqb (length (pick A c)) 1)
-      (λ e. let w = pick-one A c (pc .1) (eqb-true _ _ e) in
-      let s : spell A c ≡ getD A (w .number) 0 ∷ [] = spell-one A c (eqb-true _ _ e) ∙ w .member in
+      (λ f. let w = pick-one A c (pc .1) (eqb-true _ _ f) in
+      let s : spell A c ≡ getD A (w .number) 0 ∷ [] = spell-one A c (eqb-true _ _ f) ∙ w .member in
       rw s
-      (read-on A out at (getD A (w .number) 0) rest _ (move-single (w .number) (w .below))
-      ∙ ap₂ (λ (z b : ℕ). more z (readFrom A out b rest)) (sym (w .power)) (sym (add-one at))))
-      (λ e. let ne = eqb-false (length (pick A c)) 1 e in
+      (read-on marks A out at (getD A (w .number) 0) rest _ (move-single (w .number) (w .below))
+      ∙ ap₂ (λ (z b : ℕ). more z (readFrom marks A out b rest)) (sym (w .power)) (sym (add-one at))))
+      (λ f. let ne = eqb-false (length (pick A c)) 1 f in
       let le = length-pick A c in
-      let pos : 0 < length (pick A c) = bool-cases (eqb (length (pick A c)) 0) (λ z. absurd (let k = pick-none A c (pc .1) (eqb-true _ _ z) in omega (arith, pc .0))) (λ z. let k = eqb-false (length (pick A c)) 0 z in omega arith) in
+      let two : 1 < length (pick A c) = omega arith in
       bool-cases (eqb (length (pick A c)) (length A))
-      (λ f. let fe = eqb-true (length (pick A c)) (length A) f in
-      rw (spell-all A c ne fe)
-      (read-on A out at 42 rest _ (move-star (omega arith))
-      ∙ ap₂ (λ (z b : ℕ). more z (readFrom A out b rest)) (sym (pick-full A c (pc .1) fe)) (sym (add-one at))))
-      (λ f. let fe = eqb-false (length (pick A c)) (length A) f in
-      let s = spell-part A c ne fe in
+      (λ g. let fe = eqb-true (length (pick A c)) (length A) g in
+      rw (spell-all A c two fe)
+      (read-on marks A out at 42 rest _ (move-star (omega arith))
+      ∙ ap₂ (λ (z b : ℕ). more z (readFrom marks A out b rest)) (sym (pick-full A c (pc .1) fe)) (sym (add-one at))))
+      (λ g. let fe = eqb-false (length (pick A c)) (length A) g in
+      let s = spell-part A c two fe in
       let m = members (length A) 0 (omega arith) 0 0 0 c (suc at) rest (le-refl 0) (pc .1) (omega arith) (omega arith) in
       let v : 0 + 2 ^ 0 * c ≡ c = omega arith in
       let a : suc (suc at + length (pick A c)) ≡ at + suc (length (pick A c ++ (93 ∷ []))) = omega (arith, length-append (pick A c) (93 ∷ [])) in
       rw (s, append-snoc (pick A c) 93 rest)
-      (read-on A out at 91 (pick A c ++ (93 ∷ rest)) _ (move-open (omega arith)) ∙ m
-      ∙ ap₂ (λ (z b : ℕ). more z (readFrom A out b rest)) v a)))
+      (read-on marks A out at 91 (pick A c ++ (93 ∷ rest)) _ (move-open (omega arith)) ∙ m
+      ∙ ap₂ (λ (z b : ℕ). more z (readFrom marks A out b rest)) v a))))
 
   -- reading what was spelled gives the letters
-  pub line-read : (cs : List ℕ) (at : ℕ) (rest : List ℕ) → AllProper (length A) cs → readFrom A out at (line A cs ++ rest) ≡ got cs (at + length (line A cs))
+  pub line-read : (cs : List ℕ) (at : ℕ) (rest : List ℕ) → AllProper marks (length A) cs → readFrom marks A out at (line A cs ++ rest) ≡ got cs (at + length (line A cs))
   unfolding line
-  line-read [] at rest p = read-on A out at 10 rest _ move-lf ∙ ap (got []) (sym (add-one at))
+  line-read [] at rest p = read-on marks A out at 10 rest _ move-lf ∙ ap (got []) (sym (add-one at))
   line-read (c ∷ cs) at rest p =
       rw (append-assoc (spell A c) (line A cs) rest)
       (letter-read c at (line A cs ++ rest) (p .0) ∙ ap (more c) (line-read cs (at + length (spell A c)) rest (p .1))

@@ -1,6 +1,6 @@
 -- What a state of the reader means: the bytes of a letter that is not at its end, which a byte carries on and which can be carried to a right line. Assumes nothing.
 use mathlib.Core.Path.{_≡_, refl, sym, ap, ap₂, _∙_}
-use mathlib.Core.Bool.{true, false, _&&_, _||_}
+use mathlib.Core.Bool.{Bool, true, false, _&&_, _||_}
 use mathlib.Core.List.{List, [], _∷_, _++_, append-assoc}
 use mathlib.Core.Logic.{_⊎_, inl, inr, ⊎-elim}
 use Prim.Native.Nat.{ℕ, suc, _+_, _^_, _≤_, _<_}
@@ -17,7 +17,7 @@ use Rattle.notation.specs.Spelling.{pick, spell, line, Proper, AllProper
 use Rattle.notation.specs.Reader.{State, out, inside, Move, stop, end, to, letter, mayFollow, inner, byteMove}
 use Rattle.notation.proofs.PickLaws.{pick-zero, pick-snoc}
 use Rattle.notation.proofs.FindLaws.{find-hit}
-use Rattle.notation.proofs.SpellLaws.{spell-part, spell-single, spell-star}
+use Rattle.notation.proofs.SpellLaws.{spell-mark, spell-part, spell-single, spell-star}
 
 module _ (A : List ℕ) where
   -- the bytes of a letter that is not at its end
@@ -37,25 +37,26 @@ module _ (A : List ℕ) where
   Ok out = Unit {0}
   Ok (inside S t n) = Open S t n
 
+module _ (marks : Bool) (A : List ℕ) where
   -- what a byte does is right: it ends the line, goes on in a letter, or ends one
   abbrev pub Sense : State → ℕ → Move → Type 0
   Sense σ b stop = Unit {0}
-  Sense σ b end = pre σ ++ (b ∷ []) ≡ 10 ∷ []
-  Sense σ b (to τ) = Ok τ × (pre τ ≡ pre σ ++ (b ∷ []))
-  Sense σ b (letter c) = Proper (length A) c × (spell A c ≡ pre σ ++ (b ∷ []))
+  Sense σ b end = pre A σ ++ (b ∷ []) ≡ 10 ∷ []
+  Sense σ b (to τ) = Ok A τ × (pre A τ ≡ pre A σ ++ (b ∷ []))
+  Sense σ b (letter c) = Proper marks (length A) c × (spell A c ≡ pre A σ ++ (b ∷ []))
 
-  sense-out : (b : ℕ) → Sense out b (byteMove A out b)
+  sense-out : (b : ℕ) → Sense out b (byteMove marks A out b)
   unfolding byteMove
   sense-out b =
       bool-cases (eqb b 10) (λ e. rw e (ap (λ (x : ℕ). x ∷ []) (eqb-true b 10 e)))
       (λ e. bool-cases (ltb (find A b) (length A))
       (λ f. let l = ltb-true (find A b) (length A) f in
-      rw (e, f) ((pow-pos (find A b), pow-lt l), spell-single A (find A b) l ∙ ap (λ (x : ℕ). x ∷ []) (find-hit A b l)))
+      rw (e, f) ((λ z. absurd (omega (arith, pow-pos (find A b))), pow-lt l), spell-single A (find A b) l ∙ ap (λ (x : ℕ). x ∷ []) (find-hit A b l)))
       (λ f. bool-cases (eqb b 42 && leb 2 (length A))
       (λ g. let two = leb-true 2 (length A) (and-true-r (eqb b 42) (leb 2 (length A)) g) in
       let is = eqb-true b 42 (and-true-l (eqb b 42) (leb 2 (length A)) g) in
       let big = pow-mono two in
-      rw (e, f, g) ((omega arith, omega arith), spell-star A two ∙ ap (λ (x : ℕ). x ∷ []) (sym is)))
+      rw (e, f, g) ((λ z. absurd (omega arith), omega arith), spell-star A two ∙ ap (λ (x : ℕ). x ∷ []) (sym is)))
       (λ g. bool-cases (eqb b 91 && leb 3 (length A))
       (λ h. let three = leb-true 3 (length A) (and-true-r (eqb b 91) (leb 3 (length A)) h) in
       let is = eqb-true b 91 (and-true-l (eqb b 91) (leb 3 (length A)) h) in
@@ -63,9 +64,12 @@ module _ (A : List ℕ) where
         record { fits = omega arith; below = omega arith; size = ap length (pick-zero A); part = omega arith; some = three; alive = inr (inr (refl, refl)) },
         ap₂ (λ (x : ℕ) (xs : List ℕ). x ∷ xs) (sym is) (pick-zero A),
       ))
-      (λ h. rw (e, f, g, h) tt))))
+      (λ h. bool-cases (eqb b 124 && marks)
+      (λ i. let is = eqb-true b 124 (and-true-l (eqb b 124) marks i) in
+      rw (e, f, g, h, i) ((λ z. and-true-r (eqb b 124) marks i, pow-pos (length A)), spell-mark A ∙ ap (λ (x : ℕ). x ∷ []) (sym is)))
+      (λ i. rw (e, f, g, h, i) tt)))))
 
-  sense-in : (S t n b : ℕ) → Open S t n → Sense (inside S t n) b (byteMove A (inside S t n) b)
+  sense-in : (S t n b : ℕ) → Open A S t n → Sense (inside S t n) b (byteMove marks A (inside S t n) b)
   unfolding byteMove inner mayFollow
   sense-in S t n b o =
       let j = find A b in
@@ -75,8 +79,8 @@ module _ (A : List ℕ) where
       (λ f. let two = leb-true 2 n f in
       let pos : 0 < S = bool-cases (eqb S 0) (λ z. absurd (let q = ap (λ (x : ℕ). length (pick A x)) (eqb-true S 0 z) in omega (arith, o .size, ap length (pick-zero A)))) (λ z. let q = eqb-false S 0 z in omega arith) in
       rw (e, f) (
-        (pos, omega (arith, o .fits)),
-        spell-part A S (λ q. omega (arith, o .size)) (λ q. omega (arith, o .size, o .part)) ∙ ap (λ (x : ℕ). 91 ∷ (pick A S ++ (x ∷ []))) (sym (eqb-true b 93 e)),
+        (λ z. absurd (omega arith), omega (arith, o .fits)),
+        spell-part A S (omega (arith, o .size)) (λ q. omega (arith, o .size, o .part)) ∙ ap (λ (x : ℕ). 91 ∷ (pick A S ++ (x ∷ []))) (sym (eqb-true b 93 e)),
       ))
       (λ f. rw (e, f) tt))
       (λ e. bool-cases (ltb j (length A) && leb t j && ltb (suc n) (length A) && (leb 1 n || ltb (suc j) (length A)))
@@ -102,7 +106,7 @@ module _ (A : List ℕ) where
       ))
       (λ f. rw (e, f) tt))
 
-  pub sense : (σ : State) (b : ℕ) → Ok σ → Sense σ b (byteMove A σ b)
+  pub sense : (σ : State) (b : ℕ) → Ok A σ → Sense σ b (byteMove marks A σ b)
   sense out b o = sense-out b
   sense (inside S t n) b o = sense-in S t n b o
 
@@ -110,29 +114,30 @@ module _ (A : List ℕ) where
   pub record Live (w : List ℕ) : Type 0 where
     pub rest : List ℕ
     pub letters : List ℕ
-    pub proper : AllProper (length A) letters
+    pub proper : AllProper marks (length A) letters
     pub spelled : w ++ rest ≡ line A letters
 
-  live-close : (S : ℕ) → Proper (length A) S → 2 ≤ length (pick A S) → length (pick A S) < length A → 91 ∷ (pick A S ++ (93 ∷ 10 ∷ [])) ≡ line A (S ∷ [])
+  live-close : (S : ℕ) → Proper marks (length A) S → 2 ≤ length (pick A S) → length (pick A S) < length A → 91 ∷ (pick A S ++ (93 ∷ 10 ∷ [])) ≡ line A (S ∷ [])
   unfolding line
   live-close S p two part =
-      sym (ap (λ (xs : List ℕ). xs ++ (10 ∷ [])) (spell-part A S (λ e. omega arith) (λ e. omega arith)) ∙ ap (λ (xs : List ℕ). 91 ∷ xs) (append-assoc (pick A S) (93 ∷ []) (10 ∷ [])))
+      sym (ap (λ (xs : List ℕ). xs ++ (10 ∷ [])) (spell-part A S (omega arith) (λ e. omega arith)) ∙ ap (λ (xs : List ℕ). 91 ∷ xs) (append-assoc (pick A S) (93 ∷ []) (10 ∷ [])))
 
   -- adding the member t to a set below it
-  grown : (S t : ℕ) → t < length A → S < 2 ^ t → Proper (length A) (S + 2 ^ t) × (pick A (S + 2 ^ t) ≡ pick A S ++ (getD A t 0 ∷ [])) × (length (pick A (S + 2 ^ t)) ≡ suc (length (pick A S)))
+  grown : (S t : ℕ) → t < length A → S < 2 ^ t → Proper marks (length A) (S + 2 ^ t) × (pick A (S + 2 ^ t) ≡ pick A S ++ (getD A t 0 ∷ [])) × (length (pick A (S + 2 ^ t)) ≡ suc (length (pick A S)))
   grown S t h l =
       let e = pick-snoc A t S h l in
       let m = pow-mono h in
-      ((omega (arith, pow-pos t), omega (arith, pow-suc 2 t)), e, omega (arith, ap length e, length-append (pick A S) (getD A t 0 ∷ [])))
+      ((λ z. absurd (omega (arith, pow-pos t)), omega (arith, pow-suc 2 t)), e, omega (arith, ap length e, length-append (pick A S) (getD A t 0 ∷ [])))
 
-  pub live : (σ : State) → Ok σ → Live (pre σ)
+  pub live : (σ : State) → Ok A σ → Live (pre A σ)
   unfolding line
   live out o = record { rest = 10 ∷ []; letters = []; proper = tt; spelled = refl }
   live (inside S t n) o =
       let inK = pow-mono (o .below) in
       let pos : 0 < n → 0 < S = (λ l. bool-cases (eqb S 0) (λ z. absurd (let q = ap (λ (x : ℕ). length (pick A x)) (eqb-true S 0 z) in omega (arith, o .size, ap length (pick-zero A)))) (λ z. let q = eqb-false S 0 z in omega arith)) in
+      let whole : 0 < n → Proper marks (length A) S = (λ l. (λ z. absurd (let q = pos l in omega arith), omega (arith, o .fits))) in
       ⊎-elim
-      (λ two. record { rest = 93 ∷ 10 ∷ []; letters = S ∷ []; proper = ((pos (omega arith), omega (arith, o .fits)), tt); spelled = live-close S (pos (omega arith), omega (arith, o .fits)) (omega (arith, o .size)) (omega (arith, o .size, o .part)) })
+      (λ two. record { rest = 93 ∷ 10 ∷ []; letters = S ∷ []; proper = (whole (omega arith), tt); spelled = live-close S (whole (omega arith)) (omega (arith, o .size)) (omega (arith, o .size, o .part)) })
       (λ w. ⊎-elim
       (λ one. let g = grown S t (one .1) (o .fits) in
       record {

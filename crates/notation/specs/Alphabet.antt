@@ -1,6 +1,6 @@
 -- The alphabet of a sheet: its bytes, in the order that numbers the letters, and the line that lists them.
 --
---   plain b        a byte from 32 to 126, none of [ ] *
+--   plain b        a byte from 32 to 126, none of [ ] * |
 --   find A b       the number of the letter b: its first index in A, or A's length where it is none
 --   Alphabet A     A is an alphabet: plain bytes, all different
 --   TableOf A t    t has the number of each byte
@@ -20,7 +20,7 @@ use Rattle.notation.specs.declared.alphabet.Bytes.{Bytes}
 use Rattle.notation.specs.declared.alphabet.Bytes.the-variants.{After, Wrong}
 
 unfoldable pub plain : ℕ → Bool
-plain b = leb 32 b && leb b 126 && not (eqb b 91) && not (eqb b 93) && not (eqb b 42)
+plain b = leb 32 b && leb b 126 && not (eqb b 91) && not (eqb b 93) && not (eqb b 42) && not (eqb b 124)
 
 abbrev pub find : List ℕ → ℕ → ℕ
 find A b = firstWith (eqb b) A

@@ -7,6 +7,7 @@
 --   Room r n               a right line, for whose letters a list of n has room
 use Prim.Native.Nat.{ℕ, suc, _≤_, _<_}
 use mathlib.Core.Path.{_≡_}
+use mathlib.Core.Bool.{Bool}
 use mathlib.Core.List.{List, [], _∷_}
 use lib.ListN.{length}
 use Rattle.notation.specs.Alphabet.{TableOf}
@@ -44,9 +45,10 @@ oneBy end at r = End (suc at)
 oneBy (letter c) at r = Letter c (suc at)
 oneBy (to τ) at r = oneOf r
 
-unfoldable pub oneAt : List ℕ → ℕ → List ℕ → One
-oneAt A at [] = OneWrong at
-oneAt A at (b ∷ s) = oneBy (byteMove A out b) at (bracketFrom A 0 0 0 (suc at) s)
+-- where marks may stand, or may not
+unfoldable pub oneAt : Bool → List ℕ → ℕ → List ℕ → One
+oneAt marks A at [] = OneWrong at
+oneAt marks A at (b ∷ s) = oneBy (byteMove marks A out b) at (bracketFrom A 0 0 0 (suc at) s)
 
 abbrev pub countedOf : Read → Line
 countedOf (got cs e) = Counted (length cs) e

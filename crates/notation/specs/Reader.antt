@@ -1,4 +1,4 @@
--- The reader of a letter line, byte by byte.
+-- The reader of a letter line, byte by byte. `marks` tells whether entry marks may stand in the line.
 --
 --   State          between letters, or in a bracket with the members so far
 --   Move           what a byte does: it is wrong, ends the line, leads to a state, or ends a letter
@@ -45,13 +45,14 @@ moveIn S wrongByte = stop
 moveIn S closed = letter S
 moveIn S (on S' t n) = to (inside S' t n)
 
-unfoldable pub byteMove : List ℕ → State → ℕ → Move
-byteMove A out b =
+unfoldable pub byteMove : Bool → List ℕ → State → ℕ → Move
+byteMove marks A out b =
     cond (eqb b 10) end
     (cond (ltb (find A b) (length A)) (letter (2 ^ find A b))
     (cond (eqb b 42 && leb 2 (length A)) (letter (2 ^ length A - 1))
-    (cond (eqb b 91 && leb 3 (length A)) (to (inside 0 0 0)) stop)))
-byteMove A (inside S t n) b = moveIn S (inner A S t n b)
+    (cond (eqb b 91 && leb 3 (length A)) (to (inside 0 0 0))
+    (cond (eqb b 124 && marks) (letter 0) stop))))
+byteMove marks A (inside S t n) b = moveIn S (inner A S t n b)
 
 -- the place after a line is that after its LF
 pub data Read : Type 0 where
@@ -69,6 +70,6 @@ follow (to τ) at f = f τ
 follow (letter c) at f = more c (f out)
 
 -- reading s, which begins at the place at
-unfoldable pub readFrom : List ℕ → State → ℕ → List ℕ → Read
-readFrom A σ at [] = wrong at
-readFrom A σ at (b ∷ s) = follow (byteMove A σ b) at (λ τ. readFrom A τ (suc at) s)
+unfoldable pub readFrom : Bool → List ℕ → State → ℕ → List ℕ → Read
+readFrom marks A σ at [] = wrong at
+readFrom marks A σ at (b ∷ s) = follow (byteMove marks A σ b) at (λ τ. readFrom marks A τ (suc at) s)

@@ -12,7 +12,7 @@ pub enum Bytes {
     Wrong(usize),
 }
 
-// Whether a byte is from 32 to 126 and none of [ ] *.
+// Whether a byte is from 32 to 126 and none of [ ] * |.
 fn is_plain(b: u8) -> bool
     ensures { λ r. ⌜ r ≡ plain b ⌝ }
 {
@@ -28,7 +28,10 @@ fn is_plain(b: u8) -> bool
     if b == b']' {
         return false;
     }
-    b != b'*'
+    if b == b'*' {
+        return false;
+    }
+    b != b'|'
 }
 
 // The number of the letter b, or the alphabet's length.

@@ -94,10 +94,10 @@ fn read_bracket(alphabet: &[u8], table: &[u8; 256], sheet: &[u8], from: usize) -
     r
 }
 
-// What stands at a place of a line.
-fn read_one(alphabet: &[u8], table: &[u8; 256], sheet: &[u8], at: usize) -> One
+// What stands at a place of a line, in which marks may stand or not.
+fn read_one(marks: bool, alphabet: &[u8], table: &[u8; 256], sheet: &[u8], at: usize) -> One
     requires { do ⌜ Given (← ⟦Letter::MAX_K⟧) (now alphabet) (now table) (now sheet) at ⌝ }
-    ensures { λ r. ⌜ r ≡ oneAt (now (alphabet .entry)) at (drop at (now (sheet .entry))) ⌝ }
+    ensures { λ r. ⌜ r ≡ oneAt marks (now (alphabet .entry)) at (drop at (now (sheet .entry))) ⌝ }
 {
     if at == sheet.len() {
         return One::Wrong(at);
@@ -124,19 +124,31 @@ fn read_one(alphabet: &[u8], table: &[u8; 256], sheet: &[u8], at: usize) -> One
                 Bracket::Wrong(place) => One::Wrong(place),
             };
         }
+        return One::Wrong(at);
+    }
+    if b == b'|' {
+        if marks {
+            return One::Letter(0, at + 1);
+        }
     }
     One::Wrong(at)
 }
 
-// The first pass: how many letters the line has, and the place after it.
-pub fn count_letters(alphabet: &[u8], table: &[u8; 256], sheet: &[u8], from: usize) -> Line
+// The first pass over a line, in which marks may stand or not: how many letters it has, and the place after it.
+pub fn count_letters(
+    marks: bool,
+    alphabet: &[u8],
+    table: &[u8; 256],
+    sheet: &[u8],
+    from: usize,
+) -> Line
     requires { do ⌜ Given (← ⟦Letter::MAX_K⟧) (now alphabet) (now table) (now sheet) from ⌝ }
-    ensures { λ r. ⌜ r ≡ countedOf (readFrom (now (alphabet .entry)) out from (drop from (now (sheet .entry)))) ⌝ }
+    ensures { λ r. ⌜ r ≡ countedOf (readFrom marks (now (alphabet .entry)) out from (drop from (now (sheet .entry)))) ⌝ }
 {
     let mut at = from;
     let mut n: usize = 0;
     let r = loop {
-        match read_one(alphabet, table, sheet, at) {
+        match read_one(marks, alphabet, table, sheet, at) {
             One::Letter(_, next) => {
                 n += 1;
                 at = next;
@@ -153,15 +165,22 @@ pub fn count_letters(alphabet: &[u8], table: &[u8; 256], sheet: &[u8], from: usi
 }
 
 // The second pass: writes the letters of a right line.
-pub fn put_letters(alphabet: &[u8], table: &[u8; 256], sheet: &[u8], from: usize, list: &mut [u32])
+pub fn put_letters(
+    marks: bool,
+    alphabet: &[u8],
+    table: &[u8; 256],
+    sheet: &[u8],
+    from: usize,
+    list: &mut [u32],
+)
     requires { do ⌜ Given (← ⟦Letter::MAX_K⟧) (now alphabet) (now table) (now sheet) from ⌝ }
-    requires { ⌜ Room (readFrom (now alphabet) out from (drop from (now sheet))) (length (now list)) ⌝ }
-    ensures { λ _. ⌜ now (list .exit) ≡ over (lettersOf (readFrom (now (alphabet .entry)) out from (drop from (now (sheet .entry))))) (now (list .entry)) ⌝ }
+    requires { ⌜ Room (readFrom marks (now alphabet) out from (drop from (now sheet))) (length (now list)) ⌝ }
+    ensures { λ _. ⌜ now (list .exit) ≡ over (lettersOf (readFrom marks (now (alphabet .entry)) out from (drop from (now (sheet .entry))))) (now (list .entry)) ⌝ }
 {
     let mut at = from;
     let mut i: usize = 0;
     loop {
-        match read_one(alphabet, table, sheet, at) {
+        match read_one(marks, alphabet, table, sheet, at) {
             One::Letter(set, next) => {
                 list[i] = set;
                 i += 1;

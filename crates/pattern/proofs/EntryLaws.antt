@@ -27,7 +27,7 @@ use Rattle.hits.specs.Hits.{met}
 use Rattle.shifts.specs.Shift.{covers, selfFit}
 use Rattle.shifts.proofs.LeastLaws.{least-room}
 use Rattle.pattern.specs.Last.{afterR}
-use Rattle.pattern.specs.Tables.{tableFrom, table, unsure, surePrefix, lastTable, maskIn, maskTable, shiftTable, frontShifts, endShifts, LastTable, MaskTable, FrontShifts, EndShifts}
+use Rattle.pattern.specs.Tables.{tableFrom, table, notSingle, surePrefix, lastTable, maskIn, maskTable, shiftTable, frontShifts, endShifts, LastTable, MaskTable, FrontShifts, EndShifts}
 use Rattle.pattern.proofs.PowerLaws.{power-self, power-other}
 
 -- a table by its entries
@@ -140,14 +140,14 @@ module _ (P : List ℕ) (k : ℕ) (e : k ≡ surePrefix P) where
   before zero l = singles-none P 0
   before (suc h) l =
       let z : 0 + h ≡ h = omega arith in
-      rw (← add-one h) (singles-more P 0 h (before h (omega arith)) (rw z (not-false _ (first-before unsure P h (omega arith)))))
+      rw (← add-one h) (singles-more P 0 h (before h (omega arith)) (rw z (not-false _ (first-before notSingle P h (omega arith)))))
 
   pub sure-at : (h : ℕ) → h ≤ length P → allSingle P 0 h ≡ leb h k
   unfolding surePrefix
   sure-at = singles-upto P 0 k (length P) (before k (le-refl k)) (λ l. stop (omega arith))
     where
-      stop : firstWith unsure P < length P → single (getD P (0 + k) 0) ≡ false
-      stop l = let z : 0 + k ≡ firstWith unsure P = omega arith in rw z (not-true _ (first-has unsure P l))
+      stop : firstWith notSingle P < length P → single (getD P (0 + k) 0) ≡ false
+      stop l = let z : 0 + k ≡ firstWith notSingle P = omega arith in rw z (not-true _ (first-has notSingle P l))
 
   pub all-sure : allSingle P 0 (length P) ≡ leb (length P) k
   all-sure = sure-at (length P) (le-refl (length P))

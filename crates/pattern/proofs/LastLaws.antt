@@ -10,6 +10,7 @@ use borrow.Author.Tests.{leb-true, leb-false}
 use lib.Dec.{leb}
 use lib.ListN.{length, getD}
 use Rattle.letters.specs.Letters.{meets}
+use Rattle.letters.proofs.LetterLaws.{none-meets}
 use Rattle.letters.proofs.Truth.{bool-cases, both-ways}
 use Rattle.pattern.specs.Last.{lastIn, afterR}
 
@@ -87,3 +88,7 @@ module _ (P : List ℕ) (c : ℕ) where
   pub r-le : afterR P c ≤ length P
   unfolding afterR
   r-le = last-le (length P)
+
+-- an entry mark has none
+pub r-mark : (P : List ℕ) → afterR P 0 ≡ 0
+r-mark P = none-r P 0 (λ i l. none-meets (getD P i 0))

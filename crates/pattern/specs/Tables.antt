@@ -34,11 +34,11 @@ unfoldable pub table : ℕ → (ℕ → ℕ) → List ℕ
 table n f = tableFrom 0 n f
 
 -- a letter of more members than one, or of none
-abbrev pub unsure : ℕ → Bool
-unsure c = not (single c)
+abbrev pub notSingle : ℕ → Bool
+notSingle c = not (single c)
 
 unfoldable pub surePrefix : List ℕ → ℕ
-surePrefix P = firstWith unsure P
+surePrefix P = firstWith notSingle P
 
 unfoldable pub lastTable : ℕ → List ℕ → List ℕ
 lastTable K P = table K (λ b. afterR P (2 ^ b))

@@ -81,7 +81,7 @@ module _ (L K N k number : ℕ) (wrong : ℕ → Bool) (xs : List ℕ) (room : �
       rw (a .sizes .inside, le-ltb K k (a .sizes .fits), le-ltb N (length xs) (a .sizes .short), le-ltb (firstWith wrong xs) (length xs) (first-none wrong xs (a .right)), le-ltb room (length xs) (a .roomy))
 
 module _ (L K N k : ℕ) (xs : List ℕ) (room : ℕ) where
-  pub to-accepted : toVerdict L K N k xs room ≡ Passed → Accepted L K N k 5 (bad k) xs room
+  pub to-accepted : toVerdict L K N k xs room ≡ Passed → Accepted L K N k 5 (bad true k) xs room
   unfolding toVerdict
   to-accepted e = accepted _ _ _ _ _ _ _ _ e
 
@@ -98,7 +98,7 @@ module _ (L K N k : ℕ) (xs : List ℕ) (room : ℕ) where
 
   -- the letters are places of the table
   pub in-table : toVerdict L K N k xs room ≡ Passed → Below K xs
-  in-table e i l = let a = to-accepted e in lt-of-lt-of-le (good-small k (getD xs i 0) (a .right i l)) (pow-mono (a .sizes .fits))
+  in-table e i l = let a = to-accepted e in lt-of-lt-of-le (good-small k true (getD xs i 0) (a .right i l)) (pow-mono (a .sizes .fits))
 
 -- ---- the checks of two products
 module _ (L K k a b : ℕ) where

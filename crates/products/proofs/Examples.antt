@@ -33,13 +33,18 @@ pub aen : (toVerdict 32 9 65536 3 (3 ∷ 4 ∷ 7 ∷ []) 3 ≡ Passed) × (map p
 unfolding toVerdict convertVerdict sizesThen alphabetThen outside refuse firstWith bad productOf product prime primes members membersFrom member digit letterOf dividing divides
 aen = (refl, refl, refl)
 
--- 6 meets 10, not 5
-pub six : (meeting 3 6 10 ≡ Known true) × (meeting 3 6 5 ≡ Known false)
-unfolding pairVerdict alphabetThen outside refuse other isProduct firstProduct product primes divides productsMeet gcd commonUpTo
-six = (refl, refl)
+-- [ae], the mark and *
+pub marked : (toVerdict 32 9 65536 3 (3 ∷ 0 ∷ 7 ∷ []) 3 ≡ Passed) × (map productOf (3 ∷ 0 ∷ 7 ∷ []) ≡ 6 ∷ 1 ∷ 30 ∷ []) × (map letterOf (6 ∷ 1 ∷ 30 ∷ []) ≡ 3 ∷ 0 ∷ 7 ∷ [])
+unfolding toVerdict convertVerdict sizesThen alphabetThen outside refuse firstWith bad productOf product prime primes members membersFrom member digit letterOf dividing divides
+marked = (refl, refl, refl)
 
--- 0, 1, 4, 7 are refused for k = 3
-pub none : (converts 3 (0 ∷ []) ≡ refusal 7 0) × (converts 3 (1 ∷ []) ≡ refusal 7 0) × (converts 3 (4 ∷ []) ≡ refusal 7 0) × (converts 3 (7 ∷ []) ≡ refusal 7 0)
+-- 6 meets 10, not 5; 1 meets neither 6 nor 1
+pub six : (meeting 3 6 10 ≡ Known true) × (meeting 3 6 5 ≡ Known false) × (meeting 3 1 6 ≡ Known false) × (meeting 3 1 1 ≡ Known false)
+unfolding pairVerdict alphabetThen outside refuse other isProduct firstProduct product primes divides productsMeet gcd commonUpTo
+six = (refl, refl, refl, refl)
+
+-- 0, 4, 7 are refused for k = 3; 1 is taken
+pub none : (converts 3 (0 ∷ []) ≡ refusal 7 0) × (converts 3 (1 ∷ []) ≡ Passed) × (converts 3 (4 ∷ []) ≡ refusal 7 0) × (converts 3 (7 ∷ []) ≡ refusal 7 0)
 unfolding fromVerdict convertVerdict sizesThen alphabetThen outside refuse firstWith other isProduct firstProduct product primes divides
 none = (refl, refl, refl, refl)
 

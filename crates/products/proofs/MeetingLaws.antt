@@ -1,10 +1,10 @@
 -- Two products meet exactly if their letters do (Dehghani, Lecroq, Mhaskar, Smyth, lemma 5); and what C is told of it. Assumes nothing.
 use mathlib.Core.Path.{_≡_, refl, sym, ap, _∙_}
-use mathlib.Core.Bool.{Bool, true}
-use Prim.Native.Nat.{ℕ, _^_, _≤_, _<_}
-use native.Mathlib.Nat.{le-trans}
+use mathlib.Core.Bool.{Bool, true, false}
+use Prim.Native.Nat.{ℕ, zero, _^_, _≤_, _<_}
+use native.Mathlib.Nat.{le-trans, zero-lt-suc}
 use native.Mathlib.Omega.{arith}
-use borrow.Author.Tests.{lt-ltb, ltb-true, ltb-false}
+use borrow.Author.Tests.{lt-ltb, le-ltb, ltb-true, ltb-false}
 use lib.Dec.{ltb}
 use lib.IntN.{ℤ, pos}
 use Rattle.promise.specs.Promised.{Promised}
@@ -59,6 +59,11 @@ products-meet c d h =
     let w = meets-some c d y in
     let x = member-digit (w .0) c (w .1) in
     lt-ltb 1 (gcd (productOf c) (productOf d)) (shares-exceeds c d (w .0) (member-nine c (w .0) h x) x (member-digit (w .0) d (w .2))))
+
+-- the mark's product meets nothing, itself neither
+pub one-meets : (v : ℕ) → productsMeet 1 v ≡ false
+unfolding productsMeet
+one-meets v = le-ltb 1 (gcd 1 v) (divides-le (gcd 1 v) 1 (zero-lt-suc zero) (is-gcd 1 v .left))
 
 -- two values that are accepted meet exactly if their letters do
 pub values-meet : (L K k a b : ℕ) → K ≤ 9 → pairVerdict L K k a b ≡ Passed → productsMeet a b ≡ meets (letterOf a) (letterOf b)

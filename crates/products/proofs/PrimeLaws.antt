@@ -6,14 +6,14 @@ use mathlib.Core.Bool.{Bool, true, false, _&&_}
 use Prim.Native.Nat.{ℕ, zero, suc, _+_, _*_, _/_, _%_, _^_, _≤_, _<_}
 use native.Mathlib.Nat.{eq-zero-or-pos, zero-add, pow-suc, lt-of-lt-of-le, le-trans, le-of-suc-le-suc, not-suc-le-zero}
 use native.Mathlib.Omega.{arith}
-use borrow.Author.Tests.{lt-ltb, ltb-true, eqb-false}
+use borrow.Author.Tests.{lt-ltb, ltb-true}
 use lib.Dec.{T, eqb, eqb→eq, ltb, ltb→lt}
 use lib.ListN.{length, getD, take}
-use lib.Pow.{pow-mono}
+use lib.Pow.{pow-pos, pow-mono}
 use Rattle.letters.specs.Digits.{digit}
 use Rattle.letters.specs.Members.{members}
-use Rattle.letters.proofs.Truth.{bool-cases, and-true-l, and-true-r, or-false-l}
-use Rattle.letters.proofs.DigitLaws.{digit-lt, digit-ext, some-digit}
+use Rattle.letters.proofs.Truth.{bool-cases, and-true-l, and-true-r}
+use Rattle.letters.proofs.DigitLaws.{digit-lt, digit-ext}
 use Rattle.hits.specs.Counts.{tally}
 use Rattle.inputs.specs.Refusals.{bad}
 use Rattle.inputs.proofs.BadLaws.{good, good-small}
@@ -63,7 +63,7 @@ by-digits c =
 pub product-pos : (c : ℕ) → 0 < productOf c
 product-pos c = rw (by-digits c) (positive primes nine c)
 
--- the empty set's product is 1
+-- the entry mark's product is 1
 pub product-none : productOf 0 ≡ 1
 product-none = by-digits 0 ∙ set-none primes
 
@@ -84,11 +84,6 @@ pub divisor-member : (c g : ℕ) → 1 < g → Divides g (productOf c) → (b : 
 unfolding prime primes
 divisor-member c g h d =
     ⊎-elim (λ z. absurd (omega arith)) (λ f. f) (some-member primes nine c g (subst (λ (y : ℕ). Divides g y) (by-digits c) d))
-
-pub product-above : (c : ℕ) → c < 2 ^ 9 → (c ≡ 0 → ⊥) → 1 < productOf c
-product-above c h n =
-    let w = some-digit 9 c h n in
-    le-trans (prime-at (w .0) (w .1) .0) (divides-le (prime (w .0)) (productOf c) (product-pos c) (member-prime (w .0) c (w .1) (w .2)))
 
 -- ---- back from a value to its letter
 digit-dividing : (ps : List ℕ) (v b : ℕ) → b < length ps → digit b (dividing ps v) ≡ tally (divides (getD ps b 1) v)
@@ -163,53 +158,50 @@ module _ (k : ℕ) (h : k ≤ 9) where
   unfolding firstProduct
   divides-first c l = rw (by-digits c, ← set-take k primes c l) (set-divides (take k primes) c)
 
-  -- a value is taken exactly if it is above 1 and divides the product of the first k primes
-  pub taken : (v : ℕ) → isProduct k v ≡ true → (1 < v) × Divides v (firstProduct k)
+  -- a value is taken exactly if it is above 0 and divides the product of the first k primes
+  pub taken : (v : ℕ) → isProduct k v ≡ true → (0 < v) × Divides v (firstProduct k)
   unfolding isProduct
   taken v e =
-      (ltb-true 1 v (and-true-l (ltb 1 v) (divides v (firstProduct k)) e), divides-true v (firstProduct k) (and-true-r (ltb 1 v) (divides v (firstProduct k)) e))
+      (ltb-true 0 v (and-true-l (ltb 0 v) (divides v (firstProduct k)) e), divides-true v (firstProduct k) (and-true-r (ltb 0 v) (divides v (firstProduct k)) e))
 
-  pub takes : (v : ℕ) → 1 < v → Divides v (firstProduct k) → isProduct k v ≡ true
+  pub takes : (v : ℕ) → 0 < v → Divides v (firstProduct k) → isProduct k v ≡ true
   unfolding isProduct
-  takes v l d = rw (lt-ltb 1 v l, true-divides v (firstProduct k) d)
+  takes v l d = rw (lt-ltb 0 v l, true-divides v (firstProduct k) d)
 
   -- a letter's product is taken
-  pub letter-taken : (c : ℕ) → bad k c ≡ false → isProduct k (productOf c) ≡ true
-  unfolding bad
-  letter-taken c g =
-      let l = good-small k c g in
-      takes (productOf c) (product-above c (within c l) (eqb-false c 0 (or-false-l (eqb c 0) _ g))) (divides-first c l)
+  pub letter-taken : (c : ℕ) → bad true k c ≡ false → isProduct k (productOf c) ≡ true
+  letter-taken c g = takes (productOf c) (product-pos c) (divides-first c (good-small k true c g))
 
   -- a value that is taken is a letter's product
-  pub letter-for : (v : ℕ) → isProduct k v ≡ true → (c : ℕ) × (bad k c ≡ false) × (productOf c ≡ v)
+  pub letter-for : (v : ℕ) → isProduct k v ≡ true → (c : ℕ) × (bad true k c ≡ false) × (productOf c ≡ v)
   unfolding firstProduct
   letter-for v e =
       let t = taken v e in
       let w = as-set (take k primes) (primes-take k primes nine) v (t .1) in
       let l : w .0 < 2 ^ k = subst (λ (n : ℕ). w .0 < 2 ^ n) (first-length k h) (w .1) in
       let q : productOf (w .0) ≡ v = by-digits (w .0) ∙ sym (set-take k primes (w .0) l) ∙ sym (w .2) in
-      (w .0, good k (w .0) (λ z. let o = ap productOf z ∙ product-none in omega (arith, t .0)) l, q)
+      (w .0, good k true (w .0) (λ z. refl) l, q)
 
   -- two letters with the same product are one
-  pub same-product : (c d : ℕ) → bad k c ≡ false → bad k d ≡ false → productOf c ≡ productOf d → c ≡ d
+  pub same-product : (c d : ℕ) → bad true k c ≡ false → bad true k d ≡ false → productOf c ≡ productOf d → c ≡ d
   same-product c d x y e =
-      sym (letter-again c (within c (good-small k c x))) ∙ ap letterOf e ∙ letter-again d (within d (good-small k d y))
+      sym (letter-again c (within c (good-small k true c x))) ∙ ap letterOf e ∙ letter-again d (within d (good-small k true d y))
 
   -- a value, as a letter, and back
-  pub letter-is : (v c : ℕ) → bad k c ≡ false → productOf c ≡ v → letterOf v ≡ c
-  letter-is v c g e = ap letterOf (sym e) ∙ letter-again c (within c (good-small k c g))
+  pub letter-is : (v c : ℕ) → bad true k c ≡ false → productOf c ≡ v → letterOf v ≡ c
+  letter-is v c g e = ap letterOf (sym e) ∙ letter-again c (within c (good-small k true c g))
 
-  pub letter-good : (v : ℕ) → isProduct k v ≡ true → bad k (letterOf v) ≡ false
-  letter-good v e = let w = letter-for v e in ap (bad k) (letter-is v (w .0) (w .1) (w .2)) ∙ w .1
+  pub letter-good : (v : ℕ) → isProduct k v ≡ true → bad true k (letterOf v) ≡ false
+  letter-good v e = let w = letter-for v e in ap (bad true k) (letter-is v (w .0) (w .1) (w .2)) ∙ w .1
 
   pub product-again : (v : ℕ) → isProduct k v ≡ true → productOf (letterOf v) ≡ v
   product-again v e = let w = letter-for v e in ap productOf (letter-is v (w .0) (w .1) (w .2)) ∙ w .2
 
   -- the letter that a value is the product of, and no other
   pub record One (v c : ℕ) : Type 0 where
-    pub over : bad k c ≡ false
+    pub over : bad true k c ≡ false
     pub makes : productOf c ≡ v
-    pub only : (d : ℕ) → bad k d ≡ false → productOf d ≡ v → d ≡ c
+    pub only : (d : ℕ) → bad true k d ≡ false → productOf d ≡ v → d ≡ c
 
   -- exactly the values that are taken are products of exactly one letter
   pub one-letter : (v : ℕ) → isProduct k v ≡ true → (c : ℕ) × One v c
@@ -219,6 +211,10 @@ module _ (k : ℕ) (h : k ≤ 9) where
 
   pub letter-one : (v c : ℕ) → One v c → isProduct k v ≡ true
   letter-one v c o = subst (λ (x : ℕ). isProduct k x ≡ true) (o .makes) (letter-taken c (o .over))
+
+-- and 1 gives the mark back
+pub one-none : letterOf 1 ≡ 0
+one-none = ap letterOf (sym product-none) ∙ letter-again 0 (pow-pos 9)
 
 -- all nine
 pub all-nine : firstProduct 9 ≡ 223092870

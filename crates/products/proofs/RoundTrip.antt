@@ -1,6 +1,6 @@
 -- Letters to products and back gives the same letters, and products to letters and back the same products. Assumes nothing.
 use mathlib.Core.Path.{_≡_, refl, ap, _∙_, subst}
-use mathlib.Core.Bool.{Bool, false, not}
+use mathlib.Core.Bool.{Bool, true, false, not}
 use mathlib.Core.List.{List, [], _∷_, map}
 use Prim.Native.Nat.{ℕ, zero, suc, _≤_, _<_}
 use native.Mathlib.Nat.{le-of-suc-le-suc, le-trans, lt-of-lt-of-le}
@@ -73,20 +73,20 @@ module _ (L K N k : ℕ) (nine : K ≤ 9) where
     unfolding fromVerdict other
     products-accepted room′ h =
         let a = to-accepted L K N k cs room e in
-        accept _ _ _ _ _ _ _ _ (made L K N k 5 7 productOf (bad k) (other k) cs room a room′ h (λ c g. ap not (letter-taken k (le-trans (a .sizes .fits) nine) c g)))
+        accept _ _ _ _ _ _ _ _ (made L K N k 5 7 productOf (bad true k) (other k) cs room a room′ h (λ c g. ap not (letter-taken k (le-trans (a .sizes .fits) nine) c g)))
 
     pub letters-same : map letterOf (map productOf cs) ≡ cs
     letters-same =
         let a = to-accepted L K N k cs room e in
         map-back productOf letterOf cs
-        (λ i m. letter-again (getD cs i 0) (lt-of-lt-of-le (good-small k (getD cs i 0) (a .right i m)) (pow-mono (le-trans (a .sizes .fits) nine))))
+        (λ i m. letter-again (getD cs i 0) (lt-of-lt-of-le (good-small k true (getD cs i 0) (a .right i m)) (pow-mono (le-trans (a .sizes .fits) nine))))
 
   module _ (vs : List ℕ) (room : ℕ) (e : fromVerdict L K N k vs room ≡ Passed) where
     pub letters-accepted : (room′ : ℕ) → length vs ≤ room′ → toVerdict L K N k (map letterOf vs) room′ ≡ Passed
     unfolding toVerdict other
     letters-accepted room′ h =
         let a = from-accepted L K N k vs room e in
-        accept _ _ _ _ _ _ _ _ (made L K N k 7 5 letterOf (other k) (bad k) vs room a room′ h (λ v g. letter-good k (le-trans (a .sizes .fits) nine) v (not-false _ g)))
+        accept _ _ _ _ _ _ _ _ (made L K N k 7 5 letterOf (other k) (bad true k) vs room a room′ h (λ v g. letter-good k (le-trans (a .sizes .fits) nine) v (not-false _ g)))
 
     pub products-same : map productOf (map letterOf vs) ≡ vs
     unfolding other

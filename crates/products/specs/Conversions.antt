@@ -8,7 +8,7 @@
 --   toVerdict, fromVerdict     the checks of letters that are to be products, and of products that are to be letters
 --   ToProducts, FromProducts   the promises of the two
 use Prim.Native.Nat.{ℕ}
-use mathlib.Core.Bool.{Bool}
+use mathlib.Core.Bool.{Bool, true}
 use mathlib.Core.List.{List, map}
 use lib.Dec.{ltb}
 use lib.ListN.{length}
@@ -34,8 +34,9 @@ elements number place n room = refuse (ltb place n) number place (refuse (ltb ro
 unfoldable pub convertVerdict : ℕ → ℕ → ℕ → ℕ → ℕ → (ℕ → Bool) → List ℕ → ℕ → Check
 convertVerdict L K N k number wrong xs room = sizesThen L K N k (length xs) (elements number (firstWith wrong xs) (length xs) room)
 
+-- letters as a text has them: marks may stand among them
 unfoldable pub toVerdict : ℕ → ℕ → ℕ → ℕ → List ℕ → ℕ → Check
-toVerdict L K N k cs room = convertVerdict L K N k 5 (bad k) cs room
+toVerdict L K N k cs room = convertVerdict L K N k 5 (bad true k) cs room
 
 unfoldable pub fromVerdict : ℕ → ℕ → ℕ → ℕ → List ℕ → ℕ → Check
 fromVerdict L K N k vs room = convertVerdict L K N k 7 (other k) vs room

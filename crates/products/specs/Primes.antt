@@ -6,7 +6,7 @@
 --   Carries tab      a table has the product of each set of nine letters
 --   firstProduct k   the product of the first k primes
 --   divides d n      d divides n
---   isProduct k v    the value v is a product for k
+--   isProduct k v    the value v is a product for k; the entry mark's is 1
 --   other k v        it is none
 --   letterOf v       the letter whose members are the base letters whose primes divide v
 use Prim.Native.Nat.{ℕ, _+_, _*_, _%_, _^_, _<_}
@@ -42,7 +42,7 @@ unfoldable pub divides : ℕ → ℕ → Bool
 divides d n = eqb (n % d) 0
 
 unfoldable pub isProduct : ℕ → ℕ → Bool
-isProduct k v = ltb 1 v && divides v (firstProduct k)
+isProduct k v = ltb 0 v && divides v (firstProduct k)
 
 unfoldable pub other : ℕ → ℕ → Bool
 other k v = not (isProduct k v)

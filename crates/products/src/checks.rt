@@ -77,7 +77,7 @@ pub(crate) fn check_letters(k: u32, letters: &[u32], room: usize) -> Check
 {
     match check_sizes(k, letters.len()) {
         Check::Refused(r) => Check::Refused(r),
-        Check::Passed => check_elements(5, first_bad(k, letters), letters.len(), room),
+        Check::Passed => check_elements(5, first_bad(Text::MARKS, k, letters), letters.len(), room),
     }
 }
 

@@ -34,11 +34,11 @@ pub(crate) fn first_product(k: u32) -> u32
     FIRST[k as usize]
 }
 
-// Whether v is above 1 and divides the product of the first primes. A value of any size is taken or refused.
+// Whether v is above 0 and divides the product of the first primes. A value of any size is taken or refused.
 pub(crate) fn is_product(full: u32, v: u32) -> bool
-    ensures { λ r. ⌜ r ≡ (ltb 1 v && divides v full) ⌝ }
+    ensures { λ r. ⌜ r ≡ (ltb 0 v && divides v full) ⌝ }
 {
-    if v <= 1 {
+    if v == 0 {
         return false;
     }
     full % v == 0

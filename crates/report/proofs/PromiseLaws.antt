@@ -62,7 +62,7 @@ pub good : (B K M N : ℕ) (d : Strings) (s : List ℕ) (w : Strings) → readin
 good B K M N d s w q =
     let F = reading-found B K M N d s w q in
     let t = F .whole .text in
-    let h = read-in (F .whole .alphabet .string) (drop (t .from) s) out (t .from) (t .string) (t .next) (F .sections .both .text .reads) in
+    let h = read-in _ (F .whole .alphabet .string) (drop (t .from) s) out (t .from) (t .string) (t .next) (F .sections .both .text .reads) in
     record {
       short = omega (arith, h .0, h .1, length-drop (t .from) s, F .sections .small, ap (λ (x : Strings). length (x .text)) (F .is));
       passed = read-accepted B K M N d s w q;

@@ -81,16 +81,16 @@ module _ (s : List ℕ) where
       alike-alphabet (alphabetAt k from (drop from s)) _ _ (λ next l.
       alike-room r r′ k _ (room k (inside-most 1 K k b) (alphabet-short k from next s l)))))
 
-  letters-alike : (A : List ℕ) (least most number r r′ : ℕ) (at : ℕ) → (number ≡ 8 → ⊥) → ((m : ℕ) → m ≤ most → m ≤ length s → (m ≤ r) × (m ≤ r′))
-      → Alike (letterSection A (record { least = least; most = most; number = number; room = r }) s at) (letterSection A (record { least = least; most = most; number = number; room = r′ }) s at)
+  letters-alike : (A : List ℕ) (marks : Bool) (least most number r r′ : ℕ) (at : ℕ) → (number ≡ 8 → ⊥) → ((m : ℕ) → m ≤ most → m ≤ length s → (m ≤ r) × (m ≤ r′))
+      → Alike (letterSection A (record { least = least; most = most; number = number; marks = marks; room = r }) s at) (letterSection A (record { least = least; most = most; number = number; marks = marks; room = r′ }) s at)
   unfolding letterSection letterLine
-  letters-alike A least most number r r′ at n room =
+  letters-alike A marks least most number r r′ at n room =
       alike-count (countAt at (drop at s)) at _ _ (λ m from c.
       alike-refuse (outside least most m) number at _ _ n (λ b.
-      alike-letters (readFrom A out from (drop from s)) _ _ (λ cs next l.
+      alike-letters (readFrom marks A out from (drop from s)) _ _ (λ cs next l.
       alike-refuse (not (eqb (length cs) m)) 14 at _ _ (λ z. omega arith) (λ d.
       let e : length cs ≡ m = eqb-true (length cs) m (not-false (eqb (length cs) m) d) in
-      let w = read-in A (drop from s) out from cs next l in
+      let w = read-in marks A (drop from s) out from cs next l in
       alike-room r r′ m _ (room m (inside-most least most m b) (omega (arith, w .0, w .1, length-drop from s)))))))
 
 -- lists that no section of the sheet s is too long for
@@ -105,9 +105,9 @@ module _ (B K M N : ℕ) (s : List ℕ) (d d′ : Strings) (ample : length s ≤
   unfolding stringSections textSection
   strings-alike small A at =
       let w = ample small in
-      alike-then _ _ _ _ (letters-alike s A 1 M 2 (length (d .pattern)) (length (d′ .pattern)) at (λ z. omega arith) (λ m h l. (w .0 .pattern m h l, w .1 .pattern m h l))) (λ p.
+      alike-then _ _ _ _ (letters-alike s A false 1 M 2 (length (d .pattern)) (length (d′ .pattern)) at (λ z. omega arith) (λ m h l. (w .0 .pattern m h l, w .1 .pattern m h l))) (λ p.
       alike-then _ _ _ _
-      (alike-then _ _ _ _ (letters-alike s A 0 N 3 (length (d .text)) (length (d′ .text)) (p .next) (λ z. omega arith) (λ n h l. (omega (arith, w .0 .text), omega (arith, w .1 .text)))) (λ t.
+      (alike-then _ _ _ _ (letters-alike s A true 0 N 3 (length (d .text)) (length (d′ .text)) (p .next) (λ z. omega arith) (λ n h l. (omega (arith, w .0 .text), omega (arith, w .1 .text)))) (λ t.
       alike-refuse (ltb (t .next) (length s)) 15 (t .next) _ _ (λ z. omega arith) (λ b. (refl, λ q e. found-not _ q e))))
       (λ t. (refl, λ q e. found-not _ q e)))
 

@@ -1,6 +1,6 @@
 -- The sections of a sheet, case by case, as the tests on the way decide. Assumes nothing.
 use mathlib.Core.Path.{_≡_, refl, sym, ap, ap₂, _∙_}
-use mathlib.Core.Bool.{true, false}
+use mathlib.Core.Bool.{Bool, true, false}
 use mathlib.Core.List.{List}
 use Prim.Native.Nat.{ℕ, _≤_, _<_}
 use native.Mathlib.Omega.{arith}
@@ -59,29 +59,29 @@ counted-wrong : (r : Read) (q : ℕ) → countedOf r ≡ LineWrong q → r ≡ w
 counted-wrong (got cs f) q e = absurd (let z : _≡_ {A = ℕ} 0 1 = cc in omega arith)
 counted-wrong (wrong f) q e = let x : f ≡ q = cc in ap wrong x
 
-module _ (A : List ℕ) (room : ℕ) (s : List ℕ) (at m from : ℕ) where
-  pub line-wrong : (q : ℕ) → countedOf (readFrom A out from (drop from s)) ≡ LineWrong q → Refused (no 13 q) ≡ foundOf (letterLine A room s at m from)
+module _ (marks : Bool) (A : List ℕ) (room : ℕ) (s : List ℕ) (at m from : ℕ) where
+  pub line-wrong : (q : ℕ) → countedOf (readFrom marks A out from (drop from s)) ≡ LineWrong q → Refused (no 13 q) ≡ foundOf (letterLine marks A room s at m from)
   unfolding letterLine
-  line-wrong q e = rw (counted-wrong (readFrom A out from (drop from s)) q e)
+  line-wrong q e = rw (counted-wrong (readFrom marks A out from (drop from s)) q e)
 
-  module _ (n next : ℕ) (e : countedOf (readFrom A out from (drop from s)) ≡ Counted n next) where
-    pub line-differs : (n ≡ m → ⊥) → Refused (no 14 at) ≡ foundOf (letterLine A room s at m from)
+  module _ (n next : ℕ) (e : countedOf (readFrom marks A out from (drop from s)) ≡ Counted n next) where
+    pub line-differs : (n ≡ m → ⊥) → Refused (no 14 at) ≡ foundOf (letterLine marks A room s at m from)
     unfolding letterLine refuseAt
     line-differs d =
-        let g = counted-got (readFrom A out from (drop from s)) n next e in
+        let g = counted-got (readFrom marks A out from (drop from s)) n next e in
         rw (g .1, ne-eqb (length (g .0)) m (λ z. d (sym (g .2) ∙ z)))
 
     module _ (same : n ≡ m) where
-      pub line-roomless : room < m → Refused (no 8 0) ≡ foundOf (letterLine A room s at m from)
+      pub line-roomless : room < m → Refused (no 8 0) ≡ foundOf (letterLine marks A room s at m from)
       unfolding letterLine refuseAt
       line-roomless h =
-          let g = counted-got (readFrom A out from (drop from s)) n next e in
+          let g = counted-got (readFrom marks A out from (drop from s)) n next e in
           rw (g .1, eq-eqb (length (g .0)) m (g .2 ∙ same), lt-ltb room m h)
 
-      pub line-at : m ≤ room → At m from next ≡ foundOf (letterLine A room s at m from)
+      pub line-at : m ≤ room → At m from next ≡ foundOf (letterLine marks A room s at m from)
       unfolding letterLine refuseAt
       line-at h =
-          let g = counted-got (readFrom A out from (drop from s)) n next e in
+          let g = counted-got (readFrom marks A out from (drop from s)) n next e in
           rw (g .1, eq-eqb (length (g .0)) m (g .2 ∙ same), le-ltb room m h) (ap (λ (x : ℕ). At x from next) (sym (g .2 ∙ same)))
 
 module _ (A : List ℕ) (b : Bounds) (s : List ℕ) (at : ℕ) where
@@ -94,7 +94,7 @@ module _ (A : List ℕ) (b : Bounds) (s : List ℕ) (at : ℕ) where
     unfolding letterSection refuseAt
     letters-outside o = rw (c, o)
 
-    pub letters-inside : outside (b .least) (b .most) m ≡ false → foundOf (letterLine A (b .room) s at m from) ≡ foundOf (letterSection A b s at)
+    pub letters-inside : outside (b .least) (b .most) m ≡ false → foundOf (letterLine (b .marks) A (b .room) s at m from) ≡ foundOf (letterSection A b s at)
     unfolding letterSection refuseAt
     letters-inside i = rw (c, i)
 

@@ -24,6 +24,14 @@ cases =
       sheet = 51 ∷ 10 ∷ 97 ∷ 101 ∷ 110 ∷ 10 ∷ 52 ∷ 10 ∷ 97 ∷ 110 ∷ 110 ∷ 97 ∷ 10 ∷ 49 ∷ 50 ∷ 10 ∷ 97 ∷ 110 ∷ 110 ∷ 97 ∷ 110 ∷ 110 ∷ 91 ∷ 97 ∷ 101 ∷ 93 ∷ 110 ∷ 97 ∷ 110 ∷ 110 ∷ 91 ∷ 97 ∷ 110 ∷ 93 ∷ 10 ∷ [];
       outcome = found (record { alphabet = 97 ∷ 101 ∷ 110 ∷ []; pattern = 1 ∷ 4 ∷ 4 ∷ 1 ∷ []; text = 1 ∷ 4 ∷ 4 ∷ 1 ∷ 4 ∷ 4 ∷ 3 ∷ 4 ∷ 1 ∷ 4 ∷ 4 ∷ 5 ∷ [] });
     }
+    -- an|naanna; then the mark in the alphabet, in the pattern and in a bracket
+    ∷ record {
+      sheet = 51 ∷ 10 ∷ 97 ∷ 101 ∷ 110 ∷ 10 ∷ 52 ∷ 10 ∷ 97 ∷ 110 ∷ 110 ∷ 97 ∷ 10 ∷ 57 ∷ 10 ∷ 97 ∷ 110 ∷ 124 ∷ 110 ∷ 97 ∷ 97 ∷ 110 ∷ 110 ∷ 97 ∷ 10 ∷ [];
+      outcome = found (record { alphabet = 97 ∷ 101 ∷ 110 ∷ []; pattern = 1 ∷ 4 ∷ 4 ∷ 1 ∷ []; text = 1 ∷ 4 ∷ 0 ∷ 4 ∷ 1 ∷ 1 ∷ 4 ∷ 4 ∷ 1 ∷ [] });
+    }
+    ∷ record { sheet = 51 ∷ 10 ∷ 97 ∷ 124 ∷ 110 ∷ 10 ∷ []; outcome = refusal 12 3 }
+    ∷ record { sheet = 51 ∷ 10 ∷ 97 ∷ 101 ∷ 110 ∷ 10 ∷ 50 ∷ 10 ∷ 97 ∷ 124 ∷ 10 ∷ []; outcome = refusal 13 9 }
+    ∷ record { sheet = 51 ∷ 10 ∷ 97 ∷ 101 ∷ 110 ∷ 10 ∷ 49 ∷ 10 ∷ 97 ∷ 10 ∷ 49 ∷ 10 ∷ 91 ∷ 97 ∷ 124 ∷ 93 ∷ 10 ∷ []; outcome = refusal 13 14 }
     -- a leading zero
     ∷ record { sheet = 48 ∷ 51 ∷ 10 ∷ []; outcome = refusal 11 0 }
     -- six digits

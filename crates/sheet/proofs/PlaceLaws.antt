@@ -56,7 +56,7 @@ module _ (q : ℕ) where
   at-letters (wrong p) f d e = let z : p ≡ q = cc in ap wrong z
   at-letters (got cs p) f d e = absurd (d cs p e)
 
-pub alphabet-place : (K room : ℕ) (s : List ℕ) (q : ℕ) → K ≤ 92 → alphabetSection K room s ≡ refusal 12 q → WrongLine AlphabetLine s 0 q
+pub alphabet-place : (K room : ℕ) (s : List ℕ) (q : ℕ) → K ≤ 91 → alphabetSection K room s ≡ refusal 12 q → WrongLine AlphabetLine s 0 q
 unfolding alphabetSection
 alphabet-place K room s q h e =
     let c = past-count 12 q (countAt 0 s) 0 _ (λ z. omega arith) e in
@@ -68,17 +68,17 @@ alphabet-place K room s q h e =
     let f = alphabet-first-wrong k a (drop a s) q (omega arith) w in
     record { count = k; from = a; counted = c .2; far = f .0; place = f .1; first = f .2 }
 
-pub letter-place : (A : List ℕ) (b : Bounds) (s : List ℕ) (at q : ℕ) → Alphabet A → (b .number ≡ 13 → ⊥) → letterSection A b s at ≡ refusal 13 q → WrongLine (λ _. LetterLine A) s at q
+pub letter-place : (A : List ℕ) (b : Bounds) (s : List ℕ) (at q : ℕ) → Alphabet A → (b .number ≡ 13 → ⊥) → letterSection A b s at ≡ refusal 13 q → WrongLine (λ _. LetterLine (b .marks) A) s at q
 unfolding letterSection letterLine
 letter-place A b s at q al n e =
     let c = past-count 13 q (countAt at (drop at s)) at _ (λ z. omega arith) e in
     let m = c .0 in
     let p = c .1 in
     let d = past 13 q (outside (b .least) (b .most) m) (b .number) at _ n (c .3) in
-    let w = at-letters q (readFrom A out p (drop p s)) _
+    let w = at-letters q (readFrom (b .marks) A out p (drop p s)) _
     (λ cs f z. not-found 13 q _ (past 13 q (ltb (b .room) m) 8 0 _ (λ y. omega arith) (past 13 q (not (eqb (length cs) m)) 14 at _ (λ y. omega arith) z .1) .1))
     (d .1) in
-    let f = first-wrong A al (drop p s) p q w in
+    let f = first-wrong (b .marks) A al (drop p s) p q w in
     record { count = m; from = p; counted = c .2; far = f .0; place = f .1; first = f .2 }
 
 -- a section of letters is never refusal with 12, nor the alphabet's with 13
@@ -97,7 +97,7 @@ letters-not-12 A b s at q n e =
     let c = past-count 12 q (countAt at (drop at s)) at _ (λ z. omega arith) e in
     let m = c .0 in
     let d = past 12 q (outside (b .least) (b .most) m) (b .number) at _ n (c .3) in
-    letters-never q (readFrom A out (c .1) (drop (c .1) s)) _
+    letters-never q (readFrom (b .marks) A out (c .1) (drop (c .1) s)) _
     (λ cs f z. not-found 12 q _ (past 12 q (ltb (b .room) m) 8 0 _ (λ y. omega arith) (past 12 q (not (eqb (length cs) m)) 14 at _ (λ y. omega arith) z .1) .1))
     (d .1)
 
@@ -151,20 +151,20 @@ module _ (n q : ℕ) (not10 : 10 ≡ n → ⊥) (not15 : 15 ≡ n → ⊥) where
 
 module _ (B K M N : ℕ) (d : Strings) (s : List ℕ) (q : ℕ) where
   -- 12 names the first wrong byte of the alphabet line
-  pub place-12 : K ≤ 92 → reading B K M N d s ≡ refusal 12 q → WrongLine AlphabetLine s 0 q
+  pub place-12 : K ≤ 91 → reading B K M N d s ≡ refusal 12 q → WrongLine AlphabetLine s 0 q
   place-12 h e =
       ⊎-elim (alphabet-place K (length (d .alphabet)) s q h)
       (λ a. absurd (⊎-elim (letters-not-12 (a .0 .string) (patternBounds M (length (d .pattern))) s (a .0 .next) q (λ y. omega arith))
       (λ p. letters-not-12 (a .0 .string) (textBounds N (length (d .text))) s (p .0 .next) q (λ y. omega arith) (p .2)) (a .2)))
       (sheet-refuses 12 q (λ y. omega arith) (λ y. omega arith) B K M N d s e)
 
-  -- 13 names the first wrong byte of the pattern's line or, where that is right, of the text's
+  -- 13 names the first wrong byte of the pattern's line, which has no marks, or, where that is right, of the text's, which may have them
   pub record Place13 : Type 0 where
     pub alphabet : Section
     pub listed : alphabetSection K (length (d .alphabet)) s ≡ found alphabet
-    pub line : WrongLine (λ _. LetterLine (alphabet .string)) s (alphabet .next) q
+    pub line : WrongLine (λ _. LetterLine false (alphabet .string)) s (alphabet .next) q
         ⊎ ((p : Section) × (letterSection (alphabet .string) (patternBounds M (length (d .pattern))) s (alphabet .next) ≡ found p)
-        × WrongLine (λ _. LetterLine (alphabet .string)) s (p .next) q)
+        × WrongLine (λ _. LetterLine true (alphabet .string)) s (p .next) q)
 
   pub place-13 : reading B K M N d s ≡ refusal 13 q → Place13
   place-13 e =

@@ -1,5 +1,6 @@
 -- The promise of the reader, by the plan of the sheet: what a plan says of the sheet, and what is answered and left by it. Assumes nothing.
 use mathlib.Core.Path.{_≡_, refl, sym, ap, _∙_, subst}
+use mathlib.Core.Bool.{Bool, true, false}
 use mathlib.Core.List.{List}
 use Prim.Native.Nat.{ℕ, _≤_}
 use native.Mathlib.Omega.{arith}
@@ -19,27 +20,27 @@ use Rattle.sheet.specs.declared.Taken.the-variants.{Read as TakenRead, R
 use Rattle.sheet.proofs.SectionLaws.{lent, AlphabetLent, lent-is, alphabet-lent, LettersFound, planning-found}
 use Rattle.sheet.proofs.CaseLaws.{same-refusal}
 
--- what is read from a place over the alphabet that a plan lends
-abbrev lineIn : List ℕ → Lines → ℕ → Read
-lineIn s p from = readFrom (lent s (p .alphabet) (p .k)) out from (drop from s)
+-- what is read from a place over the alphabet that a plan lends, where marks may stand or not
+abbrev lineIn : Bool → List ℕ → Lines → ℕ → Read
+lineIn marks s p from = readFrom marks (lent s (p .alphabet) (p .k)) out from (drop from s)
 
 -- a line that lies in the sheet, whose n letters have room
-pub record LineFound (s : List ℕ) (p : Lines) (from n room : ℕ) : Type 0 where
+pub record LineFound (marks : Bool) (s : List ℕ) (p : Lines) (from n room : ℕ) : Type 0 where
   pub within : from ≤ length s
-  pub fits : Room (lineIn s p from) room
-  pub size : length (lettersOf (lineIn s p from)) ≡ n
+  pub fits : Room (lineIn marks s p from) room
+  pub size : length (lettersOf (lineIn marks s p from)) ≡ n
 
 -- the strings of a plan
 abbrev stringsIn : List ℕ → Lines → Strings
 stringsIn s p =
-    record { alphabet = lent s (p .alphabet) (p .k); pattern = lettersOf (lineIn s p (p .pattern)); text = lettersOf (lineIn s p (p .text)) }
+    record { alphabet = lent s (p .alphabet) (p .k); pattern = lettersOf (lineIn false s p (p .pattern)); text = lettersOf (lineIn true s p (p .text)) }
 
 -- what the plan p of the sheet s for the lent lists d says
 pub record LinesFound (B K M N : ℕ) (s : List ℕ) (d : Strings) (p : Lines) : Type 0 where
   pub reads : reading B K M N d s ≡ found (stringsIn s p)
   pub alphabet : AlphabetLent K (length (d .alphabet)) s (p .alphabet) (p .k)
-  pub pattern : LineFound s p (p .pattern) (p .m) (length (d .pattern))
-  pub text : LineFound s p (p .text) (p .n) (length (d .text))
+  pub pattern : LineFound false s p (p .pattern) (p .m) (length (d .pattern))
+  pub text : LineFound true s p (p .text) (p .n) (length (d .text))
 
 known-lines : (o : Outcome Whole) (p : Lines) → PlannedWhole p ≡ plannedOf o → (w : Whole) × (o ≡ found w) × (linesOf w ≡ p)
 known-lines (refusal x y) p e = absurd (let z : _≡_ {A = ℕ} 0 1 = cc in omega arith)
@@ -51,10 +52,10 @@ unplanned (found w) r e = absurd (let z : _≡_ {A = ℕ} 0 1 = cc in omega arit
 
 -- a section of letters is a line of the plan
 module _ (s : List ℕ) (p : Lines) {A : List ℕ} {b : Bounds} {at : ℕ} {w : Section} (is : lent s (p .alphabet) (p .k) ≡ A) (f : LettersFound A b s at w) where
-  line-reads : lineIn s p (w .from) ≡ got (w .string) (w .next)
-  line-reads = ap (λ (X : List ℕ). readFrom X out (w .from) (drop (w .from) s)) is ∙ f .reads
+  line-reads : lineIn (b .marks) s p (w .from) ≡ got (w .string) (w .next)
+  line-reads = ap (λ (X : List ℕ). readFrom (b .marks) X out (w .from) (drop (w .from) s)) is ∙ f .reads
 
-  line-found : LineFound s p (w .from) (length (w .string)) (b .room)
+  line-found : LineFound (b .marks) s p (w .from) (length (w .string)) (b .room)
   line-found =
       record {
         within = f .within;

@@ -1,5 +1,6 @@
 -- The reader accepts exactly the right sheets: what is read was written so, and what was written is read as it was. Assumes nothing.
 use mathlib.Core.Path.{_≡_, refl, sym, ap, ap₂, _∙_, subst}
+use mathlib.Core.Bool.{true, false}
 use mathlib.Core.List.{List, [], _∷_, _++_, append-assoc, append-nil}
 use Prim.Native.Nat.{ℕ, suc, _+_, _≤_, _<_}
 use native.Mathlib.Omega.{arith}
@@ -41,11 +42,11 @@ line-pos A (c ∷ cs) = omega (arith, length-append (spell A c) (line A cs), lin
 
 -- what a section of letters was
 letters-line : (A : List ℕ) (b : Bounds) (s : List ℕ) (at : ℕ) (w : Section) → Alphabet A → LettersFound A b s at w
-    → AllProper (length A) (w .string) × (drop at s ≡ decimal (length (w .string)) ++ (10 ∷ (line A (w .string) ++ drop (w .next) s)))
+    → AllProper (b .marks) (length A) (w .string) × (drop at s ≡ decimal (length (w .string)) ++ (10 ∷ (line A (w .string) ++ drop (w .next) s)))
 letters-line A b s at w al f =
     let cs = w .string in
     let c = count-written at (drop at s) (length cs) (w .from) (f .counted) in
-    let r = read-line A (drop (w .from) s) (w .from) cs (w .next) (f .reads) in
+    let r = read-line (b .marks) A (drop (w .from) s) (w .from) cs (w .next) (f .reads) in
     let hp : drop (w .from) s ≡ c .rest = on-line s at (decimal (length cs)) (c .rest) (w .from) (c .bytes) (c .place) in
     let he : drop (w .next) s ≡ r .1 .0 = on s (w .from) (line A cs) (r .1 .0) (w .next) (r .1 .1) (r .2) in
     (r .0, c .bytes ∙ ap (λ (ys : List ℕ). decimal (length cs) ++ (10 ∷ ys)) (sym hp ∙ r .1 .1 ∙ ap (λ (ys : List ℕ). line A cs ++ ys) (sym he)))
@@ -107,7 +108,7 @@ unfolding alphabetSection refuseAt
 alphabet-section K room s k a e c p m l r = rw (c, inside 1 K k p m, l, le-ltb room k r)
 
 letter-section : (A : List ℕ) (b : Bounds) (s : List ℕ) (at m p e : ℕ) (cs : List ℕ) → countAt at (drop at s) ≡ Number m p → b .least ≤ m → m ≤ b .most
-    → readFrom A out p (drop p s) ≡ got cs e → length cs ≡ m → m ≤ b .room
+    → readFrom (b .marks) A out p (drop p s) ≡ got cs e → length cs ≡ m → m ≤ b .room
     → letterSection A b s at ≡ found (record { string = cs; from = p; next = e })
 unfolding letterSection letterLine refuseAt
 letter-section A b s at m p e cs c l h r z f = rw (c, inside (b .least) (b .most) m l h, r, eq-eqb (length cs) m z, le-ltb (b .room) m f)
@@ -143,13 +144,13 @@ module _ (B K M N : ℕ) (fewK : K < 100000) (fewM : M < 100000) (fewN : N < 100
       let c2 : countAt e (drop e s) ≡ Number (length P) p = ap (countAt e) h2 ∙ count-read e (length P) s3 (omega (arith, v .short)) in
       let h3 : drop p s ≡ s3 = on-line s e (decimal (length P)) s3 p h2 refl in
       let f = p + length (line A P) in
-      let r3 : readFrom A′ out p (drop p s) ≡ got P f = ap₂ (λ (x y : List ℕ). readFrom x out p y) b1 h3 ∙ line-read A (w .alphabet) P p s4 (v .pattern) in
+      let r3 : readFrom false A′ out p (drop p s) ≡ got P f = ap₂ (λ (x y : List ℕ). readFrom false x out p y) b1 h3 ∙ line-read false A (w .alphabet) P p s4 (v .pattern) in
       let h4 : drop f s ≡ s4 = on s p (line A P) s4 f h3 refl in
       let t = suc (f + length (decimal (length T))) in
       let c4 : countAt f (drop f s) ≡ Number (length T) t = ap (countAt f) h4 ∙ count-read f (length T) (line A T) (omega (arith, v .small)) in
       let h5 : drop t s ≡ line A T = on-line s f (decimal (length T)) (line A T) t h4 refl in
       let g = t + length (line A T) in
-      let r5 : readFrom A′ out t (drop t s) ≡ got T g = ap₂ (λ (x y : List ℕ). readFrom x out t y) b1 (h5 ∙ sym (append-nil (line A T))) ∙ line-read A (w .alphabet) T t [] (v .text) in
+      let r5 : readFrom true A′ out t (drop t s) ≡ got T g = ap₂ (λ (x y : List ℕ). readFrom true x out t y) b1 (h5 ∙ sym (append-nil (line A T))) ∙ line-read true A (w .alphabet) T t [] (v .text) in
       let fin : length s ≤ g = omega (arith, ap length h5, length-drop t s, line-pos A T) in
       let q1 = alphabet-section K (length (d .alphabet)) s k a e c0 (v .some) (v .few) l1 (room .alphabet) in
       let q2 = letter-section A′ (patternBounds M (length (d .pattern))) s e (length P) p f P c2 (v .long) (v .short) r3 refl (room .pattern) in

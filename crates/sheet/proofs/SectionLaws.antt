@@ -123,7 +123,7 @@ pub record LettersFound (A : List ℕ) (b : Bounds) (s : List ℕ) (at : ℕ) (w
   pub counted : countAt at (drop at s) ≡ Number (length (w .string)) (w .from)
   pub low : b .least ≤ length (w .string)
   pub high : length (w .string) ≤ b .most
-  pub reads : readFrom A out (w .from) (drop (w .from) s) ≡ got (w .string) (w .next)
+  pub reads : readFrom (b .marks) A out (w .from) (drop (w .from) s) ≡ got (w .string) (w .next)
   pub fits : length (w .string) ≤ b .room
   pub within : w .from ≤ length s
   pub next : w .next ≤ length s
@@ -135,7 +135,7 @@ letter-section-found A b s at w h q =
     let m = c .0 in
     let p = c .1 in
     let d = refuse-found (outside (b .least) (b .most) m) (b .number) at _ w (c .3) in
-    let l = letters-found (readFrom A out p (drop p s)) _ w (d .1) in
+    let l = letters-found (readFrom (b .marks) A out p (drop p s)) _ w (d .1) in
     let cs = l .0 in
     let e = l .1 in
     let f = refuse-found (not (eqb (length cs) m)) 14 at _ w (l .3) in
@@ -151,7 +151,7 @@ letter-section-found A b s at w h q =
       reads = l .2;
       fits = omega (arith, ltb-false (b .room) m (r .0));
       within = pe;
-      next = omega (arith, read-in A (drop p s) out p cs e (l .2), length-drop p s);
+      next = omega (arith, read-in (b .marks) A (drop p s) out p cs e (l .2), length-drop p s);
     })
 
 pub record BothFound (M N : ℕ) (A : List ℕ) (roomP roomT : ℕ) (s : List ℕ) (at : ℕ) (w : Sections) : Type 0 where

@@ -7,7 +7,7 @@
 --   Section                          a string, where its line begins, and the place after it
 --   alphabetSection                  the alphabet's section
 --   letterLine, letterSection        a line of letters whose count is known; with the count line before it
---   patternBounds, textBounds        how many letters the two strings may have
+--   patternBounds, textBounds        how many letters the two strings may have, and whether marks may stand among them
 --   textSection, stringSections      the text's section, which ends the sheet; with the pattern's before it
 --   Whole, planning                  the three sections of a whole sheet
 --   Strings, reading                 the three strings of a sheet
@@ -69,10 +69,10 @@ alphabetSection K room s =
     refuseAt (ltb room k) 8 0
     (found (record { string = take k (drop from s); from = from; next = next })))))
 
--- m letters of the alphabet A, for a list with so much room; their count line is at the place at
-unfoldable pub letterLine : List ℕ → ℕ → List ℕ → ℕ → ℕ → ℕ → Outcome Section
-letterLine A room s at m from =
-    onLetters (readFrom A out from (drop from s)) (λ cs next.
+-- m letters of the alphabet A, among which marks may stand or not, for a list with so much room; their count line is at the place at
+unfoldable pub letterLine : Bool → List ℕ → ℕ → List ℕ → ℕ → ℕ → ℕ → Outcome Section
+letterLine marks A room s at m from =
+    onLetters (readFrom marks A out from (drop from s)) (λ cs next.
     refuseAt (not (eqb (length cs) m)) 14 at
     (refuseAt (ltb room m) 8 0
     (found (record { string = cs; from = from; next = next }))))
@@ -81,14 +81,14 @@ unfoldable pub letterSection : List ℕ → Bounds → List ℕ → ℕ → Outc
 letterSection A b s at =
     onCount (countAt at (drop at s)) at (λ m from.
     refuseAt (outside (b .least) (b .most) m) (b .number) at
-    (letterLine A (b .room) s at m from))
+    (letterLine (b .marks) A (b .room) s at m from))
 
--- the pattern has 1 to M letters, else 2; the text at most N, else 3
+-- the pattern has 1 to M letters, else 2, and no mark; the text at most N, else 3, and marks may stand in it
 abbrev pub patternBounds : ℕ → ℕ → Bounds
-patternBounds M room = record { least = 1; most = M; number = 2; room = room }
+patternBounds M room = record { least = 1; most = M; number = 2; marks = false; room = room }
 
 abbrev pub textBounds : ℕ → ℕ → Bounds
-textBounds N room = record { least = 0; most = N; number = 3; room = room }
+textBounds N room = record { least = 0; most = N; number = 3; marks = true; room = room }
 
 -- from the place at to the sheet's end
 unfoldable pub textSection : ℕ → List ℕ → ℕ → List ℕ → ℕ → Outcome Section

@@ -58,8 +58,8 @@ pub fn read(sheet: &[u8], alphabet: &mut [u8], pattern: &mut [u32], text: &mut [
             let letters = &sheet[from..end];
             let table = numbers(letters);
             put_bytes(alphabet, 0, letters);
-            put_letters(letters, &table, sheet, w.pattern, pattern);
-            put_letters(letters, &table, sheet, w.text, text);
+            put_letters(Pattern::MARKS, letters, &table, sheet, w.pattern, pattern);
+            put_letters(Text::MARKS, letters, &table, sheet, w.text, text);
             Taken::Read(Sizes {
                 k: w.k,
                 m: w.m,

@@ -21,11 +21,12 @@ pub enum Found {
     Refused(Refusal),
 }
 
-// How many letters a section may have, which number refuses any other count, and how many there is room for.
+// How many letters a section may have, which number refuses any other count, whether marks may stand among them, and how many there is room for.
 pub struct Bounds {
     pub least: usize,
     pub most: usize,
     pub number: u32,
+    pub marks: bool,
     pub room: usize,
 }
 
@@ -74,8 +75,9 @@ pub(crate) fn alphabet_section(sheet: &[u8], room: usize) -> Found
     }
 }
 
-// A line of m letters, whose count line is at a place.
+// A line of m letters, whose count line is at a place; marks may stand in it or not.
 fn letter_line(
+    marks: bool,
     alphabet: &[u8],
     table: &[u8; 256],
     sheet: &[u8],
@@ -85,9 +87,9 @@ fn letter_line(
     room: usize,
 ) -> Found
     requires { do ⌜ Given (← ⟦Letter::MAX_K⟧) (now alphabet) (now table) (now sheet) from ⌝ }
-    ensures { λ r. ⌜ r ≡ foundOf (letterLine (now (alphabet .entry)) room (now (sheet .entry)) count m from) ⌝ }
+    ensures { λ r. ⌜ r ≡ foundOf (letterLine marks (now (alphabet .entry)) room (now (sheet .entry)) count m from) ⌝ }
 {
-    match count_letters(alphabet, table, sheet, from) {
+    match count_letters(marks, alphabet, table, sheet, from) {
         Line::Wrong(place) => Found::Refused(Refusal { number: 13, place }),
         Line::Counted(n, next) => {
             if n != m {
@@ -130,7 +132,16 @@ fn letter_section(
                     place: at,
                 });
             }
-            letter_line(alphabet, table, sheet, from, m, at, bounds.room)
+            letter_line(
+                bounds.marks,
+                alphabet,
+                table,
+                sheet,
+                from,
+                m,
+                at,
+                bounds.room,
+            )
         }
     }
 }
@@ -144,6 +155,7 @@ fn text_section(alphabet: &[u8], table: &[u8; 256], sheet: &[u8], at: usize, roo
         least: 0,
         most: Text::MAX_N,
         number: 3,
+        marks: Text::MARKS,
         room,
     };
     match letter_section(alphabet, table, sheet, at, bounds) {
@@ -176,6 +188,7 @@ pub(crate) fn string_sections(
         least: 1,
         most: Pattern::MAX_M,
         number: 2,
+        marks: Pattern::MARKS,
         room: pattern,
     };
     match letter_section(alphabet, table, sheet, at, bounds) {

@@ -17,7 +17,7 @@ use Rattle.letters.specs.Members.{keep, membersFrom, members}
 use Rattle.letters.proofs.Truth.{bool-cases}
 use Rattle.notation.specs.Spelling.{pick, spell, line}
 use Rattle.notation.proofs.PickLaws.{parity, pick-nil, pick-odd, pick-even, length-pick}
-use Rattle.notation.proofs.SpellLaws.{spell-one, spell-all, spell-part}
+use Rattle.notation.proofs.SpellLaws.{spell-none, spell-one, spell-all, spell-part}
 
 -- the number of one bits is the number of members
 pub ones-pick : (A : List ℕ) (c : ℕ) → c < 2 ^ length A → ones c ≡ length (pick A c)
@@ -31,15 +31,26 @@ ones-pick (a ∷ A) c h =
 
 -- a letter's spelling, by the number of its one bits
 module _ (A : List ℕ) (c : ℕ) (h : c < 2 ^ length A) where
+  pub ones-none : ones c ≡ 0 → spell A c ≡ 124 ∷ []
+  ones-none e = spell-none A c (sym (ones-pick A c h) ∙ e)
+
   pub ones-one : ones c ≡ 1 → spell A c ≡ pick A c
   ones-one e = spell-one A c (sym (ones-pick A c h) ∙ e)
 
-  module _ (n : ones c ≡ 1 → ⊥) where
+  -- the mark and a single letter are one byte
+  pub ones-few : ones c ≤ 1 → length (spell A c) ≡ 1
+  ones-few l =
+      bool-cases (eqb (ones c) 0) (λ y. ap length (ones-none (eqb-true _ _ y)))
+      (λ n. let z = eqb-false (ones c) 0 n in
+      let e : ones c ≡ 1 = omega arith in
+      ap length (ones-one e) ∙ sym (ones-pick A c h) ∙ e)
+
+  module _ (l : 1 < ones c) where
     pub ones-all : ones c ≡ length A → spell A c ≡ 42 ∷ []
-    ones-all e = spell-all A c (λ z. n (ones-pick A c h ∙ z)) (sym (ones-pick A c h) ∙ e)
+    ones-all e = spell-all A c (omega (arith, ones-pick A c h)) (sym (ones-pick A c h) ∙ e)
 
     pub ones-part : (ones c ≡ length A → ⊥) → spell A c ≡ 91 ∷ (pick A c ++ (93 ∷ []))
-    ones-part m = spell-part A c (λ z. n (ones-pick A c h ∙ z)) (λ z. m (ones-pick A c h ∙ z))
+    ones-part m = spell-part A c (omega (arith, ones-pick A c h)) (λ z. m (ones-pick A c h ∙ z))
 
 -- the bytes of c's members among the last f letters
 module _ (A : List ℕ) (c : ℕ) where
@@ -88,11 +99,15 @@ line-some A (c ∷ cs) = omega (arith, line-some A cs, length-append (spell A c)
 spell-most : (A : List ℕ) (c : ℕ) → length (spell A c) ≤ length A + 2
 spell-most A c =
     let l = length-pick A c in
+    bool-cases (eqb (length (pick A c)) 0)
+    (λ y. omega (arith, ap length (spell-none A c (eqb-true _ _ y))))
+    (λ z. let some = eqb-false (length (pick A c)) 0 z in
     bool-cases (eqb (length (pick A c)) 1)
     (λ y. let e = eqb-true (length (pick A c)) 1 y in omega (arith, ap length (spell-one A c e)))
-    (λ n. bool-cases (eqb (length (pick A c)) (length A))
-    (λ y. omega (arith, ap length (spell-all A c (eqb-false (length (pick A c)) 1 n) (eqb-true (length (pick A c)) (length A) y))))
-    (λ m. omega (arith, ap length (spell-part A c (eqb-false (length (pick A c)) 1 n) (eqb-false (length (pick A c)) (length A) m)), length-append (pick A c) (93 ∷ []))))
+    (λ n. let two : 1 < length (pick A c) = (let k = eqb-false (length (pick A c)) 1 n in omega arith) in
+    bool-cases (eqb (length (pick A c)) (length A))
+    (λ y. omega (arith, ap length (spell-all A c two (eqb-true (length (pick A c)) (length A) y))))
+    (λ m. omega (arith, ap length (spell-part A c two (eqb-false (length (pick A c)) (length A) m)), length-append (pick A c) (93 ∷ [])))))
 
 pub line-most : (A cs : List ℕ) → length (line A cs) ≤ (length A + 2) * length cs + 1
 unfolding line

@@ -33,7 +33,7 @@ pub fn letter_len(alphabet: &[u8], c: u32) -> usize
     ensures { λ r. ⌜ r ≡ length (spell (now (alphabet .entry)) c) ⌝ }
 {
     let ones = u32::count_ones(c) as usize;
-    if ones == 1 {
+    if ones <= 1 {
         return 1;
     }
     if ones == alphabet.len() {
@@ -48,6 +48,9 @@ pub fn put_letter(alphabet: &[u8], c: u32, out: &mut [u8], at: usize) -> usize
     ensures { λ r. ⌜ Stored (now (out .entry)) at (spell (now (alphabet .entry)) c) r (now (out .exit)) ⌝ }
 {
     let n = u32::count_ones(c) as usize;
+    if n == 0 {
+        return put_byte(out, at, b'|');
+    }
     if n == 1 {
         return put_members(alphabet, c, out, at);
     }

@@ -6,7 +6,7 @@
 //
 // 1. Figure 3 fills its table under the pattern's letter, with the position in place of the shift; here each base letter that the pattern's letter has gets the position, and the shift is worked out from it.
 // 2. Figure 5 reads the letter after the window where there is none, at the text's end; here it is read only if there is one.
-// 3. The letter after the window may be unsure: the greatest R over its members counts, which is the least of their shifts.
+// 3. The letter after the window may be unsure: the greatest R over its members counts, which is the least of their shifts. An entry mark has no member, so that its R is none.
 pub mod c;
 mod twice;
 

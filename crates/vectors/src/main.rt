@@ -169,6 +169,46 @@ fn first_of_n() {
     say_first(first::search(2, &ab, &longer));
 }
 
+// One letter in marks only; with a mark first, last, twice; with k 1 and 32; and the mark in the pattern.
+fn marks() {
+    let a = [1u32; 1];
+    let top = [2147483648u32; 1];
+    let only = [0u32; 3];
+    let mut front = [1u32; 3];
+    front[0] = 0;
+    let mut end = [1u32; 3];
+    end[2] = 0;
+    let mut twice = [1u32; 4];
+    twice[1] = 0;
+    twice[2] = 0;
+    let mut wide = [2147483648u32; 3];
+    wide[1] = 0;
+    six(b"marks only\n", 1, &a, &only);
+    six(b"a mark first\n", 1, &a, &front);
+    six(b"a mark last\n", 1, &a, &end);
+    six(b"a mark twice\n", 1, &a, &twice);
+    six(b"k 32, a mark\n", 32, &top, &wide);
+    six(b"a mark in the pattern\n", 1, &only[..1], &front);
+}
+
+// A name that a mark cuts in two, by all six and for the first hit: anna in an|naanna.
+fn cut_name() {
+    let mut p = [4u32; 4];
+    p[0] = 1;
+    p[3] = 1;
+    let mut t = [4u32; 9];
+    t[0] = 1;
+    t[2] = 0;
+    t[4] = 1;
+    t[5] = 1;
+    t[8] = 1;
+    six(b"anna in an|naanna\n", 3, &p, &t);
+    words(b"first, in it, in its front, and in a mark\n");
+    say_first(first::search(3, &p, &t));
+    say_first(first::search(3, &p, &t[..8]));
+    say_first(first::search(3, &p[..1], &t[2..3]));
+}
+
 fn sheet(s: &[u8]) {
     let mut out = [0u8; Report::MAX_BYTES];
     let len = printed::of_front(s, s.len(), &mut out);
@@ -188,6 +228,15 @@ fn sheets() {
     sheet(b"");
     sheet(b"1\na\n1\na\n0\n\nx");
     sheet(b"1\na\n2\na\n0\n\n");
+}
+
+// The entry mark in a text; and in the alphabet, the pattern and a bracket, where it is refused.
+fn marked_sheets() {
+    words(b"sheets with marks\n");
+    sheet(b"3\naen\n4\nanna\n9\nan|naanna\n");
+    sheet(b"3\na|n\n1\na\n0\n\n");
+    sheet(b"3\naen\n2\na|\n0\n\n");
+    sheet(b"3\naen\n1\na\n1\n[a|]\n");
 }
 
 // A report one byte too long for the list, and one that just fits.
@@ -216,6 +265,9 @@ fn main() {
     first_of_k();
     first_of_m();
     first_of_n();
+    marks();
+    cut_name();
     sheets();
+    marked_sheets();
     capacity();
 }

@@ -1,4 +1,4 @@
--- The starred examples, over the alphabet aen: a is 1, e is 2, n is 4, [ae] 3, [an] 5, * 7. A lent list holds 9s.
+-- The starred examples, over the alphabet aen: a is 1, e is 2, n is 4, [ae] 3, [an] 5, * 7, the entry mark 0. A lent list holds 9s.
 use Prim.Native.Nat.{ℕ}
 use mathlib.Core.Bool.{true, false}
 use mathlib.Core.List.{List, [], _∷_, _++_}
@@ -49,6 +49,10 @@ three = 0 ∷ 3 ∷ 8 ∷ 9 ∷ []
 
 abbrev an : List ℕ
 an = 1 ∷ 4 ∷ []
+
+-- an|naanna
+abbrev entries : List ℕ
+entries = 1 ∷ 4 ∷ 0 ∷ 4 ∷ 1 ∷ 1 ∷ 4 ∷ 4 ∷ 1 ∷ []
 
 -- the worked sheet, and its report
 abbrev sheet : List ℕ
@@ -113,6 +117,17 @@ examples =
     ∷ finds Sunday an [] 0 0 0 0 blank
     ∷ finds ShiftAnd an [] 0 0 0 0 blank
     ∷ finds Hybrid an [] 0 0 0 0 blank
+    -- anna in an|naanna: not over the mark
+    ∷ finds Brute anna entries 1 12 0 0 (5 ∷ 9 ∷ 9 ∷ 9 ∷ [])
+    ∷ finds Kmp anna entries 1 11 0 0 (5 ∷ 9 ∷ 9 ∷ 9 ∷ [])
+    ∷ finds Bm anna entries 1 9 0 0 (5 ∷ 9 ∷ 9 ∷ 9 ∷ [])
+    ∷ finds Sunday anna entries 1 11 0 0 (5 ∷ 9 ∷ 9 ∷ 9 ∷ [])
+    ∷ finds ShiftAnd anna entries 1 0 0 9 (5 ∷ 9 ∷ 9 ∷ 9 ∷ [])
+    ∷ finds Hybrid anna entries 1 5 0 6 (5 ∷ 9 ∷ 9 ∷ 9 ∷ [])
+    -- * in |, which belongs to no *
+    ∷ finds Brute (7 ∷ []) (0 ∷ []) 0 1 0 0 blank
+    -- the mark in a pattern
+    ∷ refuses Brute (0 ∷ []) (1 ∷ []) 4 0
     -- a in aaa with a list of one
     ∷ record { asked = askSearch Brute 3 (1 ∷ []) (1 ∷ 1 ∷ 1 ∷ []) (9 ∷ []); due = giveSearch (Found (record { total = 3; scan = 3; shift = 0; steps = 0 })) (0 ∷ []) }
     -- text letter 8 at index 2; bad letters in both
@@ -131,12 +146,17 @@ examples =
     -- products: [ae] 6, n 5, * 30, and back
     ∷ record { asked = askProducts 3 (3 ∷ 4 ∷ 7 ∷ []) blank; due = giveList (Wrote 3) (6 ∷ 5 ∷ 30 ∷ 9 ∷ []) }
     ∷ record { asked = askLetters 3 (6 ∷ 5 ∷ 30 ∷ []) blank; due = giveList (Wrote 3) (3 ∷ 4 ∷ 7 ∷ 9 ∷ []) }
+    -- [ae], the mark and *: 6, 1, 30, and back
+    ∷ record { asked = askProducts 3 (3 ∷ 0 ∷ 7 ∷ []) blank; due = giveList (Wrote 3) (6 ∷ 1 ∷ 30 ∷ 9 ∷ []) }
+    ∷ record { asked = askLetters 3 (6 ∷ 1 ∷ 30 ∷ []) blank; due = giveList (Wrote 3) (3 ∷ 0 ∷ 7 ∷ 9 ∷ []) }
     -- 6 meets 10, not 5
     ∷ record { asked = askMeeting 3 6 10; due = giveMeeting (Known true) }
     ∷ record { asked = askMeeting 3 6 5; due = giveMeeting (Known false) }
-    -- 0, 1, 4, 7 are refused for k = 3
+    -- 1 meets neither 6 nor 1
+    ∷ record { asked = askMeeting 3 1 6; due = giveMeeting (Known false) }
+    ∷ record { asked = askMeeting 3 1 1; due = giveMeeting (Known false) }
+    -- 0, 4, 7 are refused for k = 3
     ∷ noProduct 0
-    ∷ noProduct 1
     ∷ noProduct 4
     ∷ noProduct 7
     -- the worked sheet, bytes in and report bytes out
@@ -145,4 +165,6 @@ examples =
     ∷ refusesSheet (sheetWith (91 ∷ 101 ∷ 97 ∷ 93 ∷ [])) 13 10
     ∷ refusesSheet (sheetWith (91 ∷ 97 ∷ 93 ∷ [])) 13 10
     ∷ refusesSheet sheet 8 0
+    -- | in a pattern line
+    ∷ refusesSheet (sheetWith (124 ∷ [])) 13 8
     ∷ []

@@ -56,8 +56,8 @@ module _ (K M N k : ℕ) (A P T : List ℕ) (e : checks K M N k A P T ≡ Passed
   pub checked-spellable : K < 2 ^ 32 → Spellable A P T
   checked-spellable h = record {
     few = omega (arith, sound .few);
-    pattern = letters-below (length A) P (sound .pattern);
-    text = letters-below (length A) T (sound .text);
+    pattern = letters-below _ (length A) P (sound .pattern);
+    text = letters-below _ (length A) T (sound .text);
   }
 
   pub checked-small : K < 2 ^ 64 → M < 2 ^ 64 → N < 2 ^ 64 → length (sheetBytes A P T) ≤ K + (K + 2) * M + (K + 2) * N + 66

@@ -24,7 +24,7 @@ record Case : Type 0 where
 abbrev at12 : ℕ → Check
 at12 q = Refused (record { number = 12; place = q })
 
--- right; short; long; the second of two equal bytes; a bad byte before a wrong length; k too large before all
+-- right; short; long; the second of two equal bytes; a bad byte before a wrong length; the entry mark's byte; k too large before all
 abbrev cases : List Case
 cases =
     record { k = 3; alphabet = 97 ∷ 101 ∷ 110 ∷ []; check = Passed }
@@ -32,6 +32,7 @@ cases =
     ∷ record { k = 2; alphabet = 97 ∷ 101 ∷ 110 ∷ []; check = at12 2 }
     ∷ record { k = 3; alphabet = 97 ∷ 101 ∷ 97 ∷ []; check = at12 2 }
     ∷ record { k = 3; alphabet = 97 ∷ 42 ∷ []; check = at12 1 }
+    ∷ record { k = 3; alphabet = 97 ∷ 101 ∷ 124 ∷ []; check = at12 2 }
     ∷ record { k = 33; alphabet = []; check = Refused (record { number = 1; place = 0 }) }
     ∷ []
 
@@ -45,8 +46,8 @@ pub table : map checkOf cases ≡ map due cases
 unfolding firstWith outside plain fresh freshFrom bad refuse verdict checks
 table = refl
 
--- over `aen`, the pattern `*n` and the text `[an]e`
-pub bytes : sheetBytes (97 ∷ 101 ∷ 110 ∷ []) (7 ∷ 4 ∷ []) (5 ∷ 2 ∷ [])
-    ≡ 51 ∷ 10 ∷ 97 ∷ 101 ∷ 110 ∷ 10 ∷ 50 ∷ 10 ∷ 42 ∷ 110 ∷ 10 ∷ 50 ∷ 10 ∷ 91 ∷ 97 ∷ 110 ∷ 93 ∷ 101 ∷ 10 ∷ []
+-- over `aen`, the pattern `*n` and the text `[an]|e`
+pub bytes : sheetBytes (97 ∷ 101 ∷ 110 ∷ []) (7 ∷ 4 ∷ []) (5 ∷ 0 ∷ 2 ∷ [])
+    ≡ 51 ∷ 10 ∷ 97 ∷ 101 ∷ 110 ∷ 10 ∷ 50 ∷ 10 ∷ 42 ∷ 110 ∷ 10 ∷ 51 ∷ 10 ∷ 91 ∷ 97 ∷ 110 ∷ 93 ∷ 124 ∷ 101 ∷ 10 ∷ []
 unfolding digit member membersFrom members decimalTo decimal pick spelling spell line sheetBytes
 bytes = refl

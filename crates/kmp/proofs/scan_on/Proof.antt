@@ -9,8 +9,8 @@ use lib.ListN.{length}
 use Rattle.hits.specs.Scans.{reach}
 use Rattle.hits.proofs.MetLaws.{met-on}
 use Rattle.hits.proofs.ScanLaws.{reach-on, reach-stop, reach-end}
-use Rattle.kmp.specs.Kmp.{Known, UnsureAt, nowMet}
-use Rattle.kmp.proofs.CarryLaws.{unsure-past, unsure-seen}
+use Rattle.kmp.specs.Kmp.{Known, NotSingleAt, nowMet}
+use Rattle.kmp.proofs.CarryLaws.{not-single-past, not-single-seen}
 use Rattle.kmp.proofs.scan_on.Statement.{statement}
 use Rattle.kmp.proofs.scan_on.Tie as tie
 
@@ -41,30 +41,30 @@ returns c =
     let n = sym (c .before .meet .ensures) ∙ not-true _ (c .if1 .taken) in
     (sym (l .loop .inv .rest ∙ reach-stop _ _ _ _ _ (omega arith) n), l .loop .inv .here)
 
--- past a letter that meets, whichever letter is kept as the last unsure one
+-- past a letter that meets, whichever letter is kept as the last that is not single
 module _ (k : tie.Else1 Inv-loop μ-loop) where
   past : (u : ℕ) →
       let l = at-loop (k .before) in
       let a = start l .args in
-      UnsureAt (a .t .now) (a .i) (l .loop .j + 1) u → Came (a .p .now) (a .t .now) (a .i) (a .r) (l .loop .j + 1) u
+      NotSingleAt (a .t .now) (a .i) (l .loop .j + 1) u → Came (a .p .now) (a .t .now) (a .i) (a .r) (l .loop .j + 1) u
   past u e =
       let l = at-loop (k .before) in
       let a = start l .args in
       let w = l .loop .inv in
       let y = sym (k .before .meet .ensures) ∙ not-false _ (k .if1 .left) in
       record {
-        here = record { inside = w .here .inside; short = omega arith; meet = met-on (a .p .now) (a .t .now) (a .i) (l .loop .j) (w .here .meet) y; unsure = e };
+        here = record { inside = w .here .inside; short = omega arith; meet = met-on (a .p .now) (a .t .now) (a .i) (l .loop .j) (w .here .meet) y; carried = e };
         rest = w .rest ∙ reach-on (a .p .now) (a .t .now) (a .i) (length (a .p .now)) (l .loop .j) (omega arith) y;
       }
 
 loop-again : tie.Need-loop-again Inv-loop μ-loop
 loop-again c =
-    past (c .before .before) _ (unsure-seen _ _ _ (sym (c .before .lone .ensures) ∙ not-true _ (c .if2 .taken)))
+    past (c .before .before) _ (not-single-seen _ _ _ (sym (c .before .lone .ensures) ∙ not-true _ (c .if2 .taken)))
 
 loop-again-2 : tie.Need-loop-again-2 Inv-loop μ-loop
 loop-again-2 c =
     let k = c .before .before in
-    past k _ (unsure-past _ _ _ _ (at-loop (k .before) .loop .inv .here .unsure) (sym (c .before .lone .ensures) ∙ not-false _ (c .if2 .left)))
+    past k _ (not-single-past _ _ _ _ (at-loop (k .before) .loop .inv .here .carried) (sym (c .before .lone .ensures) ∙ not-false _ (c .if2 .left)))
 
 returns-2 : tie.Need-returns-2 Inv-loop μ-loop
 returns-2 c =

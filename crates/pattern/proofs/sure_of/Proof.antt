@@ -6,12 +6,12 @@ use mathlib.Core.Bool.{not}
 use Prim.Native.Nat.{_-_}
 use lib.ListN.{length}
 use Rattle.letters.proofs.FirstLaws.{ComeTo, come-start, come-here, come-on, come-end}
-use Rattle.pattern.specs.Tables.{unsure, surePrefix}
+use Rattle.pattern.specs.Tables.{notSingle, surePrefix}
 use Rattle.pattern.proofs.sure_of.Statement.{statement}
 use Rattle.pattern.proofs.sure_of.Tie as tie
 
 abbrev Inv-loop : tie.InvT-loop
-Inv-loop p j₀ j = ComeTo unsure p j
+Inv-loop p j₀ j = ComeTo notSingle p j
 
 abbrev μ-loop : tie.MeasureT-loop
 μ-loop p j₀ j = length p - j

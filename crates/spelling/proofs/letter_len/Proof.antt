@@ -7,7 +7,7 @@ use lib.Count.{ones}
 use lib.ListN.{length, length-append}
 use Rattle.notation.specs.Spelling.{pick}
 use Rattle.notation.proofs.PickLaws.{length-pick}
-use Rattle.spelling.proofs.LineLaws.{ones-pick, ones-one, ones-all, ones-part}
+use Rattle.spelling.proofs.LineLaws.{ones-pick, ones-few, ones-all, ones-part}
 use Rattle.spelling.proofs.letter_len.Statement.{statement}
 use Rattle.spelling.proofs.letter_len.Tie as tie
 
@@ -24,13 +24,13 @@ cast-ones c = omega (arith, few c)
 returns : tie.Need-returns
 returns c =
     let st = c .before in
-    omega (arith, count st, ap length (ones-one (st .args .alphabet .now) (st .args .c) (st .pre .1) (c .if1 .taken)))
+    sym (ones-few (st .args .alphabet .now) (st .args .c) (st .pre .1) (c .if1 .taken))
 
 returns-2 : tie.Need-returns-2
 returns-2 c =
     let f = c .before in
     let st = f .before in
-    sym (ap length (ones-all (st .args .alphabet .now) (st .args .c) (st .pre .1) (f .if1 .left) (c .if2 .taken)))
+    sym (ap length (ones-all (st .args .alphabet .now) (st .args .c) (st .pre .1) (omega (arith, f .if1 .left)) (c .if2 .taken)))
 
 add-result : tie.Need-add-result
 add-result c = omega (arith, few (c .before .before))
@@ -40,7 +40,7 @@ returns-3 c =
     let f = c .before in
     let st = f .before in
     let A = st .args .alphabet .now in
-    omega (arith, count st, ap length (ones-part A (st .args .c) (st .pre .1) (f .if1 .left) (c .if2 .left)), length-append (pick A (st .args .c)) (93 ∷ []))
+    omega (arith, count st, ap length (ones-part A (st .args .c) (st .pre .1) (omega (arith, f .if1 .left)) (c .if2 .left)), length-append (pick A (st .args .c)) (93 ∷ []))
 
 pub letter-len-spec : {M : Type 1} → statement M
 letter-len-spec = tie.close (tie.spec cast-ones returns returns-2 add-result returns-3)

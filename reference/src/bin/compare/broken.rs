@@ -3,7 +3,9 @@
 
 use reference::engines::{Engine, Found};
 use reference::first::{first_hit, First};
-use reference::letters::{meets, single};
+use reference::letters::{meets, single, whole, MARK};
+use reference::sheet::allowed;
+use std::ops::Range;
 
 /// A slip, the groups that must notice it, and what it does to the expectation.
 pub struct Slip {
@@ -17,15 +19,22 @@ const fn slip(name: &'static str, groups: &'static [&'static str], what: &'stati
 }
 
 const SEARCHES: &[&str] = &["exhaustive", "random", "limits"];
+const RUNS: &[&str] = &["exhaustive", "random", "limits", "first"];
 const SHEETS: &[&str] = &["read", "program"];
+const READERS: &[&str] = &["read", "reports", "program"];
 const FIRST: &[&str] = &["first"];
 const PLACES: &[&str] = &["refusals", "first", "products", "read", "write", "program"];
+const TAKEN: &[&str] = &["refusals", "first", "read", "write", "reports", "program"];
+const FOUND: &[&str] = &["exhaustive", "random", "limits", "first", "reports", "program"];
+const MET: &[&str] = &["exhaustive", "random", "limits", "first", "products", "reports", "program"];
+const EVERY: &[&str] =
+    &["exhaustive", "random", "limits", "refusals", "first", "products", "read", "write", "reports", "program"];
 
 pub const SLIPS: &[Slip] = &[
     slip("total", SEARCHES, "the total is one too high where there are hits"),
     slip("last-start", SEARCHES, "the list lacks the last start that it holds"),
     slip("tail", SEARCHES, "the cell after the last hit is expected to be written"),
-    slip("scan", &["exhaustive", "random", "limits", "first"], "scan tests are one too high where there are any"),
+    slip("scan", RUNS, "scan tests are one too high where there are any"),
     slip("shift", SEARCHES, "shift tests are one too high where there are any"),
     slip("words", SEARCHES, "word steps are one too high where there are any"),
     slip("fourth-count", &["random"], "a fourth count is written where four are lent"),
@@ -61,7 +70,11 @@ pub const SLIPS: &[Slip] = &[
     slip("first-room-3", FIRST, "three numbers must be lent, as for the counts of a search"),
     slip("product", &["products"], "the product of all nine letters is one too high"),
     slip("letter", &["products"], "the product of all nine primes gives a letter without its last member"),
-    slip("one", &["products"], "1 is taken for a product"),
+    slip("one", &["products"], "1 is refused as no product"),
+    slip("zero", &["products"], "0 is taken for the mark's product"),
+    slip("ones-meet", &["products"], "1 meets itself"),
+    slip("mark-product", &["products"], "the mark's product is 0"),
+    slip("mark-letter", &["products"], "1 gives the letter of the first base letter"),
     slip("meet", &["products"], "a product does not meet itself"),
     slip("order-36", &["products"], "3 is checked before 6"),
     slip("order-58", &["products"], "8 is checked before 5 and 7"),
@@ -102,6 +115,20 @@ pub const SLIPS: &[Slip] = &[
     slip("differs-place", SHEETS, "14 has the place of the letters, not of their count"),
     slip("after-place", SHEETS, "15 has the sheet's length as its place"),
     slip("line-end", &["program"], "the last line has no LF"),
+    slip("mark-star", MET, "a mark belongs to `*`: the letter of all k meets it"),
+    slip("mark-ends", FOUND, "the text ends at its first mark"),
+    slip("mark-starts", RUNS, "starts are counted from the beginning of their entry"),
+    slip("mark-r", SEARCHES, "R of a mark is 0"),
+    slip("mark-past", RUNS, "KMP and the first hit go on behind a mark that they have come to"),
+    slip("mark-refused", EVERY, "a mark in the text is refused, with 5 or 13"),
+    slip("mark-pattern", TAKEN, "a mark is taken in the pattern"),
+    slip("mark-alphabet", &["read", "write", "reports", "program"], "`|` is taken in the alphabet"),
+    slip("mark-bracket", READERS, "`|` in a bracket is passed over"),
+    slip("mark-bracket-place", SHEETS, "`|` in a bracket is found at the bracket's first byte"),
+    slip("mark-uncounted", READERS, "the reader does not count the marks of the text"),
+    slip("mark-place", &["refusals", "first", "products", "write"], "the place of a 5 is counted from its entry on"),
+    slip("read-mark-star", READERS, "the reader takes `|` for `*`"),
+    slip("write-mark-star", &["write"], "the writer spells a mark `*`"),
 ];
 
 /// Shift by the least s up to `most` for which `fits` holds.
@@ -123,6 +150,9 @@ fn all_single(letters: &[u32]) -> bool {
 
 /// R(c) + 1.
 fn after_r(name: &str, p: &[u32], c: u32) -> usize {
+    if name == "mark-r" && c == MARK {
+        return 1;
+    }
     let c = if name == "lowest-member" { c & c.wrapping_neg() } else { c };
     p.iter().rposition(|x| meets(*x, c)).map_or(0, |j| j + 1)
 }
@@ -140,7 +170,9 @@ fn kmp(name: &str, p: &[u32], t: &[u32]) -> Found {
             found.hits.push(i as u32);
         }
         let under = all_single(&t[i..i + h]);
-        let s = if h == 0 {
+        let s = if name == "mark-past" && h < m && t[i + h] == MARK {
+            h + 1
+        } else if h == 0 {
             1
         } else if name == "kmp-borders" {
             least(h, |s| (*s..h).all(|j| meets(p[j - s], p[j])))
@@ -229,13 +261,29 @@ fn hybrid(name: &str, p: &[u32], t: &[u32]) -> Found {
     found
 }
 
-/// An engine's run with the slip that was asked for, if the slip is in that engine.
-pub fn run(name: Option<&str>, engine: Engine, p: &[u32], t: &[u32]) -> Found {
-    match (name, engine) {
-        (Some(name @ ("kmp-borders" | "kmp-beyond" | "kmp-whole-pattern")), Engine::Kmp) => kmp(name, p, t),
-        (Some(name @ ("bm-right-to-left" | "bm-met-only" | "lowest-member")), Engine::Bm) => bm(name, p, t),
-        (Some(name @ "lowest-member"), Engine::Sunday) => sunday(name, p, t),
-        (Some(name @ ("lowest-member" | "hybrid-one-on")), Engine::Hybrid) => hybrid(name, p, t),
+/// The strings that a slip about the mark would search in the place of these.
+pub fn searched(name: Option<&str>, k: u32, p: &[u32], t: &[u32]) -> (Vec<u32>, Vec<u32>) {
+    match name {
+        // One base letter more: the mark is that letter, and the letter of all k has it.
+        Some("mark-star") if (2..32).contains(&k) => {
+            let more = 1 << k;
+            let p = p.iter().map(|c| if *c == whole(k) { c | more } else { *c });
+            let t = t.iter().map(|c| if *c == MARK { more } else { *c });
+            (p.collect(), t.collect())
+        }
+        Some("mark-ends") => (p.to_vec(), t.iter().copied().take_while(|c| *c != MARK).collect()),
+        _ => (p.to_vec(), t.to_vec()),
+    }
+}
+
+/// An engine's run with the slip that was asked for, if the slip is in that engine or in what it searches.
+pub fn run(name: Option<&str>, engine: Engine, k: u32, p: &[u32], t: &[u32]) -> Found {
+    let (p, t) = &searched(name, k, p, t);
+    match (name.unwrap_or(""), engine) {
+        (name @ ("kmp-borders" | "kmp-beyond" | "kmp-whole-pattern" | "mark-past"), Engine::Kmp) => kmp(name, p, t),
+        (name @ ("bm-right-to-left" | "bm-met-only" | "lowest-member" | "mark-r"), Engine::Bm) => bm(name, p, t),
+        (name @ ("lowest-member" | "mark-r"), Engine::Sunday) => sunday(name, p, t),
+        (name @ ("lowest-member" | "hybrid-one-on" | "mark-r"), Engine::Hybrid) => hybrid(name, p, t),
         _ => engine.run(p, t),
     }
 }
@@ -275,25 +323,84 @@ fn slipped_first(name: &str, p: &[u32], t: &[u32]) -> First {
     found
 }
 
+/// No start is tested again whose window holds a mark that a test has come to, if `past`.
+fn first_past_marks(past: bool, p: &[u32], t: &[u32]) -> First {
+    let mut found = First::default();
+    let mut i = 0;
+    while i + p.len() <= t.len() && found.start.is_none() {
+        let met = (0..p.len()).take_while(|j| meets(p[*j], t[i + j])).count();
+        found.scan += (met + 1).min(p.len()) as u64;
+        if met == p.len() {
+            found.start = Some(i as u32);
+        } else {
+            i += if past && t[i + met] == MARK { met + 1 } else { 1 };
+        }
+    }
+    found
+}
+
 /// The run for the first hit with the slip that was asked for. A slip that is not in the run leaves it right.
-pub fn first(name: Option<&str>, p: &[u32], t: &[u32]) -> First {
+pub fn first(name: Option<&str>, k: u32, p: &[u32], t: &[u32]) -> First {
+    let (p, t) = &searched(name, k, p, t);
     match name {
         Some(name) if name.starts_with("first-") => slipped_first(name, p, t),
+        Some("mark-past") => first_past_marks(true, p, t),
         _ => first_hit(p, t),
+    }
+}
+
+/// Where the sheet's line of this number stands, without its LF. The alphabet is 1, the pattern 3, the text 5.
+pub fn line(sheet: &[u8], number: usize) -> Range<usize> {
+    let mut lines = sheet.split(|b| *b == b'\n');
+    let begin: usize = lines.by_ref().take(number).map(|line| line.len() + 1).sum();
+    let length = lines.next().map_or(0, <[u8]>::len);
+    begin.min(sheet.len())..(begin + length).min(sheet.len())
+}
+
+/// The sheet with another byte in the place of every `|` of one line.
+fn replaced(sheet: &[u8], number: usize, byte: u8) -> Vec<u8> {
+    let mut taken = sheet.to_vec();
+    taken[line(sheet, number)].iter_mut().filter(|b| **b == b'|').for_each(|b| *b = byte);
+    taken
+}
+
+/// The sheet without any `|` that stands in a bracket.
+fn unbracketed(sheet: &[u8]) -> Vec<u8> {
+    let mut inside = false;
+    let mut kept = |byte: &u8| {
+        inside = *byte == b'[' || inside && !b"]\n".contains(byte);
+        !inside || *byte != b'|'
+    };
+    sheet.iter().copied().filter(|byte| kept(byte)).collect()
+}
+
+/// The sheet that a slip about the mark would take this one for.
+pub fn marked_sheet(name: &str, sheet: &[u8]) -> Vec<u8> {
+    let alphabet = &sheet[line(sheet, 1)];
+    let unused = (33..127).find(|b| allowed(*b) && !alphabet.contains(b)).unwrap_or(b' ');
+    match name {
+        "mark-alphabet" => replaced(sheet, 1, unused),
+        "mark-pattern" => replaced(sheet, 3, alphabet.first().copied().unwrap_or(b'|')),
+        // No line holds byte 127.
+        "mark-refused" => replaced(sheet, 5, 127),
+        "read-mark-star" => replaced(sheet, 5, b'*'),
+        "mark-bracket" => unbracketed(sheet),
+        _ => sheet.to_vec(),
     }
 }
 
 /// Without a slip these runs are the reference's, so that what is noticed is the slip and nothing else.
 #[test]
 fn without_a_slip_the_runs_are_right() {
-    let strings = crate::cases::strings_up_to(&[1, 2, 3], 6);
-    for p in strings[1..].iter().filter(|p| p.len() <= 3) {
-        for t in &strings {
+    let texts = crate::cases::strings_up_to(&[MARK, 1, 2, 3], 6);
+    for p in &crate::cases::strings_up_to(&[1, 2, 3], 3)[1..] {
+        for t in &texts {
             assert_eq!(kmp("", p, t), Engine::Kmp.run(p, t));
             assert_eq!(bm("", p, t), Engine::Bm.run(p, t));
             assert_eq!(sunday("", p, t), Engine::Sunday.run(p, t));
             assert_eq!(hybrid("", p, t), Engine::Hybrid.run(p, t));
             assert_eq!(slipped_first("", p, t), first_hit(p, t));
+            assert_eq!(first_past_marks(false, p, t), first_hit(p, t));
         }
     }
 }

@@ -4,10 +4,12 @@ use crate::broken;
 use crate::library::{ConvertCase, FirstCase, ReadCase, SearchCase, Way, WriteCase};
 use reference::engines::{search, Engine};
 use reference::first::{first, first_hit};
-use reference::letters::{hits, right};
-use reference::products::{from_products, is_product, products_meet, to_products};
-use reference::refusals::{check_k, check_letters, check_m, check_n, check_room, check_search, refuse, Refusal};
-use reference::report::{printed, report};
+use reference::letters::{hits, right_in_pattern, right_in_text, whole, MARK};
+use reference::products::{from_products, is_product, product, products_meet, to_products};
+use reference::refusals::{
+    check_each, check_k, check_m, check_n, check_pattern, check_room, check_search, check_text, refuse, Refusal,
+};
+use reference::report::{report, report_of};
 use reference::sheet::{allowed, read, write, Room};
 use std::fmt;
 
@@ -45,6 +47,16 @@ fn refused(refusal: Refusal) -> Outcome {
 /// The last index of a wrong letter or value, where the lowest is to be named.
 fn last_wrong(values: &[u32], right: impl Fn(u32) -> bool) -> usize {
     values.iter().rposition(|v| !right(*v)).unwrap_or(0)
+}
+
+/// A place in a text, counted from the beginning of its entry.
+fn in_entry(text: &[u32], place: usize) -> usize {
+    place - text[..place].iter().rposition(|c| *c == MARK).map_or(0, |mark| mark + 1)
+}
+
+/// The pattern with a letter in the place of each mark.
+fn unmarked(pattern: &[u32]) -> Vec<u32> {
+    pattern.iter().map(|c| if *c == MARK { 1 } else { *c }).collect()
 }
 
 /// The checks of a search that come before its letters: 1, 2, 3.
@@ -85,6 +97,10 @@ impl Expect {
             (Some("size-place"), 2 | 3) => 0,
             (Some("bracket-place"), 13) if sheet.get(place + 1) == Some(&b']') => place + 1,
             (Some("short-place"), 12 | 13) if place == sheet.len() => place - 1,
+            (Some("mark-bracket-place"), 13) if sheet.get(place) == Some(&b'|') => {
+                let before = sheet[..place].iter().rposition(|b| b"[]\n".contains(b));
+                before.filter(|at| sheet[*at] == b'[').unwrap_or(place)
+            }
             (Some("differs-place"), 14) => place + sheet[place..].iter().take_while(|b| **b != b'\n').count() + 1,
             (Some("after-place"), 15) => sheet.len(),
             _ => return self.placed(refusal),
@@ -101,7 +117,12 @@ impl Expect {
             Some("m-64") if check_k(k).is_ok() && m == 64 => return refuse(2, 0),
             Some("n-65536") if sized && n == 65_536 => return refuse(3, 0),
             Some("order-23") if check_k(k).is_ok() => check_n(n)?,
-            Some("order-45") if sized => check_letters(5, k, text)?,
+            Some("order-45") if sized => check_text(k, text)?,
+            Some("mark-pattern") => return check_search(k, &unmarked(pattern), text),
+            Some("mark-refused") if sized => {
+                check_pattern(k, pattern)?;
+                check_each(5, text, |c| right_in_pattern(k, c))?;
+            }
             _ => {}
         }
         check_search(k, pattern, text)
@@ -110,8 +131,9 @@ impl Expect {
     /// A refused search, with the place that a slip gives it.
     fn refused_search(self, k: u32, pattern: &[u32], text: &[u32], refusal: Refusal) -> Outcome {
         let place = match (self.broken, refusal.number) {
-            (Some("highest"), 4) => last_wrong(pattern, |c| right(k, c)),
-            (Some("highest"), 5) => last_wrong(text, |c| right(k, c)),
+            (Some("highest"), 4) => last_wrong(pattern, |c| right_in_pattern(k, c)),
+            (Some("highest"), 5) => last_wrong(text, |c| right_in_text(k, c)),
+            (Some("mark-place"), 5) => in_entry(text, refusal.place),
             _ => refusal.place,
         };
         refused(self.placed(Refusal { place, ..refusal }))
@@ -136,6 +158,9 @@ impl Expect {
             Some("shift") if out.numbers[1] > 0 => out.numbers[1] += 1,
             Some("words") if out.numbers[2] > 0 => out.numbers[2] += 1,
             Some("fourth-count") if case.nwork > 3 => out.numbers.push(0),
+            Some("mark-starts") => {
+                out.letters.iter_mut().for_each(|start| *start = in_entry(&case.text, *start as usize) as u32);
+            }
             _ => {}
         }
         out
@@ -151,7 +176,7 @@ impl Expect {
         check_room(3, *nwork)?;
         let found = match self.broken {
             None => search(engine, *k, pattern, text)?,
-            Some(_) => broken::run(self.broken, engine, pattern, text),
+            Some(_) => broken::run(self.broken, engine, *k, pattern, text),
         };
         let numbers = vec![found.work.scan, found.work.shift, found.work.words];
         Ok(Outcome { answer: found.hits.len() as i64, letters: found.hits, numbers, ..Outcome::default() })
@@ -173,6 +198,7 @@ impl Expect {
             Some("first-total") if is_hit => out.answer = hits(&case.pattern, &case.text).len() as i64,
             Some("first-third") if is_hit && case.nfound > 2 => out.numbers.push(0),
             Some("first-none-writes") if !is_hit => out.numbers.push(0),
+            Some("mark-starts") if is_hit => out.numbers[1] = in_entry(&case.text, out.numbers[1] as usize) as u64,
             _ => {}
         }
         out
@@ -191,7 +217,7 @@ impl Expect {
         }
         let found = match self.broken {
             None => first(*k, pattern, text)?,
-            Some(_) => broken::first(self.broken, pattern, text),
+            Some(_) => broken::first(self.broken, *k, pattern, text),
         };
         let needed = match self.broken {
             Some("first-room-hit") if found.start.is_none() => 0,
@@ -205,6 +231,40 @@ impl Expect {
         Ok(Outcome { answer: i64::from(found.start.is_some()), numbers, ..Outcome::default() })
     }
 
+    /// The value that a slip takes this one for.
+    fn taken_value(self, way: Way, value: u32) -> u32 {
+        match (self.broken, way, value) {
+            (Some("one"), Way::FromProducts, 1) => 0,
+            (Some("zero"), Way::FromProducts, 0) => 1,
+            // No k for products has this letter.
+            (Some("mark-refused"), Way::ToProducts, MARK) => 1 << 31,
+            _ => value,
+        }
+    }
+
+    /// The value that a slip writes for this one.
+    fn written_value(self, way: Way, value: u32) -> u32 {
+        match (self.broken, way, value) {
+            (Some("product"), Way::ToProducts, 223_092_870) => value + 1,
+            (Some("letter"), Way::FromProducts, 0x1ff) => 0xff,
+            (Some("mark-product"), Way::ToProducts, 1) => 0,
+            (Some("mark-letter"), Way::FromProducts, MARK) => 1,
+            _ => value,
+        }
+    }
+
+    /// A refused conversion, with the place that a slip gives it.
+    fn refused_conversion(self, case: &ConvertCase, refusal: Refusal) -> Outcome {
+        let ConvertCase { k, values, .. } = case;
+        let place = match (self.broken, refusal.number) {
+            (Some("highest"), 5) => last_wrong(values, |c| right_in_text(*k, c)),
+            (Some("highest-7"), 7) => last_wrong(values, |v| is_product(*k, v)),
+            (Some("mark-place"), 5) => in_entry(values, refusal.place),
+            _ => refusal.place,
+        };
+        refused(self.placed(Refusal { place, ..refusal }))
+    }
+
     pub fn convert(self, case: &ConvertCase) -> Outcome {
         let ConvertCase { way, k, values, cap } = case;
         if self.is("order-36") && (1..=32).contains(k) && values.len() > 65_536 {
@@ -213,32 +273,16 @@ impl Expect {
         if self.is("order-58") && (1..=9).contains(k) && values.len() <= 65_536 && *cap < values.len() {
             return refused(Refusal { number: 8, place: 0 });
         }
-        let taken: Vec<u32> = match way {
-            Way::FromProducts if self.is("one") => values.iter().map(|v| if *v == 1 { 2 } else { *v }).collect(),
-            _ => values.clone(),
-        };
+        let taken: Vec<u32> = values.iter().map(|v| self.taken_value(*way, *v)).collect();
         let converted = match way {
             Way::ToProducts => to_products(*k, &taken, *cap),
             Way::FromProducts => from_products(*k, &taken, *cap),
         };
         let mut out = match converted {
             Ok(letters) => Outcome { answer: letters.len() as i64, letters, ..Outcome::default() },
-            Err(refusal) => {
-                let place = match (self.broken, refusal.number) {
-                    (Some("highest"), 5) => last_wrong(values, |c| right(*k, c)),
-                    (Some("highest-7"), 7) => last_wrong(values, |v| is_product(*k, v)),
-                    _ => refusal.place,
-                };
-                refused(self.placed(Refusal { place, ..refusal }))
-            }
+            Err(refusal) => self.refused_conversion(case, refusal),
         };
-        for value in &mut out.letters {
-            match (self.broken, &way) {
-                (Some("product"), Way::ToProducts) if *value == 223_092_870 => *value += 1,
-                (Some("letter"), Way::FromProducts) if *value == 0x1ff => *value = 0xff,
-                _ => {}
-            }
-        }
+        out.letters.iter_mut().for_each(|value| *value = self.written_value(*way, *value));
         if self.is("refused-converts") && out.answer == -8 {
             out.letters = vec![0; *cap];
         }
@@ -246,11 +290,19 @@ impl Expect {
     }
 
     pub fn products_meet(self, k: u32, a: u32, b: u32) -> Outcome {
-        match products_meet(k, a, b) {
-            Ok(meet) => Outcome { answer: i64::from(meet && !(self.is("meet") && a == b)), ..Outcome::default() },
-            Err(refusal) if self.is("second-at-0") => refused(Refusal { place: 0, ..refusal }),
-            Err(refusal) => refused(self.placed(refusal)),
-        }
+        let taken = |value| self.taken_value(Way::FromProducts, value);
+        let meet = match products_meet(k, taken(a), taken(b)) {
+            Ok(meet) => meet,
+            Err(refusal) if self.is("second-at-0") => return refused(Refusal { place: 0, ..refusal }),
+            Err(refusal) => return refused(self.placed(refusal)),
+        };
+        let meet = match self.broken {
+            Some("meet") => meet && a != b,
+            Some("ones-meet") => meet || a == 1 && b == 1,
+            Some("mark-star") => meet || a.min(b) == 1 && a.max(b) == product(whole(k)),
+            _ => meet,
+        };
+        Outcome { answer: i64::from(meet), ..Outcome::default() }
     }
 
     /// The sheet that a slip of the reader would take this one for.
@@ -266,17 +318,31 @@ impl Expect {
                 return [&sheet[..at], b"*", &sheet[at + whole.len()..]].concat();
             }
         }
-        sheet.to_vec()
+        broken::marked_sheet(self.broken.unwrap_or(""), sheet)
     }
 
     /// Refusals that a slip of the reader leaves out or brings in.
     fn slipped_read(self, sheet: &[u8]) -> Option<Refusal> {
-        let refusal = read(sheet, Room::AMPLE).err();
-        match (self.broken, refusal.map(|r| r.number)) {
-            (Some("read-13"), Some(13)) => Some(Refusal { number: 14, place: 0 }),
-            (Some("read-8192"), None) if sheet.len() == 8192 => Some(Refusal { number: 10, place: 0 }),
+        self.broken?;
+        let answer = read(sheet, Room::AMPLE);
+        match (self.broken, answer) {
+            (Some("read-13"), Err(Refusal { number: 13, .. })) => Some(Refusal { number: 14, place: 0 }),
+            (Some("read-8192"), Ok(_)) if sheet.len() == 8192 => Some(Refusal { number: 10, place: 0 }),
+            (Some("mark-uncounted"), Ok(held)) if held.text.contains(&MARK) => {
+                Some(Refusal { number: 14, place: broken::line(sheet, 4).start })
+            }
             _ => None,
         }
+    }
+
+    /// The report, with a slip in what is searched.
+    fn reported(self, sheet: &[u8]) -> Result<Vec<u8>, Refusal> {
+        if self.broken.is_none() {
+            return report(sheet);
+        }
+        let held = read(sheet, Room::AMPLE)?;
+        let (pattern, text) = broken::searched(self.broken, held.alphabet.len() as u32, &held.pattern, &held.text);
+        Ok(report_of(&pattern, &text))
     }
 
     pub fn read_sheet(self, case: &ReadCase) -> Outcome {
@@ -317,53 +383,59 @@ impl Expect {
         Outcome { answer: 0, bytes: sheet.alphabet, letters: sheet.pattern, more, numbers }
     }
 
-    pub fn write_sheet(self, case: &WriteCase) -> Outcome {
+    /// What the writer answers, with a slip in what it takes or in the order of its checks.
+    fn written(self, case: &WriteCase) -> Result<Vec<u8>, Refusal> {
         let WriteCase { k, alphabet, pattern, text, cap } = case;
-        let mut written = write(*k, alphabet, pattern, text, *cap);
-        let number = |result: &Result<Vec<u8>, Refusal>| result.as_ref().err().map_or(0, |r| r.number);
+        let written = write(*k, alphabet, pattern, text, *cap);
+        let number = written.as_ref().err().map_or(0, |r| r.number);
+        // With bytes of its own for all letters the rest of the sheet is as long.
+        let as_long = alphabet.len() == *k as usize;
+        let fresh: Vec<u8> = (b'0'..=b'9').chain(b'a'..=b'z').take(alphabet.len()).collect();
+        let with_fresh = || write(*k, &fresh, pattern, text, *cap);
         match self.broken {
-            Some("write-12") if number(&written) == 12 => {
-                if let Err(refusal) = check_search(*k, pattern, text) {
-                    written = Err(refusal);
-                }
+            Some("write-12") if number == 12 => check_search(*k, pattern, text).and(written),
+            Some("write-twice") if number == 12 && as_long && alphabet.iter().all(|b| allowed(*b)) => with_fresh(),
+            Some("mark-alphabet") if number == 12 && as_long && alphabet.contains(&b'|') => with_fresh(),
+            Some("mark-pattern") if number == 4 => write(*k, alphabet, &unmarked(pattern), text, *cap),
+            Some("mark-refused") if [0, 5, 8, 10].contains(&number) => {
+                check_each(5, text, |c| right_in_pattern(*k, c)).and(written)
             }
-            Some("write-twice") if number(&written) == 12 && alphabet.len() == *k as usize => {
-                // With bytes of its own for all letters the rest of the sheet is as long.
-                let fresh: Vec<u8> = (b'0'..=b'9').chain(b'a'..=b'z').take(alphabet.len()).collect();
-                if alphabet.iter().all(|b| allowed(*b)) {
-                    written = write(*k, &fresh, pattern, text, *cap);
-                }
-            }
-            Some("write-8192") if written.as_ref().is_ok_and(|bytes| bytes.len() == 8192) => {
-                written = Err(Refusal { number: 10, place: 0 });
-            }
-            Some("write-room") if number(&written) == 10 && *cap <= 8192 => {
-                written = Err(Refusal { number: 8, place: 0 });
-            }
-            _ => {}
+            Some("write-8192") if written.as_ref().is_ok_and(|bytes| bytes.len() == 8192) => refuse(10, 0),
+            Some("write-room") if number == 10 && *cap <= 8192 => refuse(8, 0),
+            _ => written,
         }
-        match written {
-            Ok(mut bytes) => {
-                if self.is("write-byte") {
-                    let at = bytes.len() - 2;
-                    bytes[at] ^= 1;
-                }
-                Outcome { answer: bytes.len() as i64, bytes, ..Outcome::default() }
+    }
+
+    /// A refused writing, with the place that a slip gives it.
+    fn refused_writing(self, case: &WriteCase, refusal: Refusal) -> Outcome {
+        let WriteCase { k, alphabet, text, .. } = case;
+        let place = match (self.broken, refusal.number) {
+            // The first of two equal bytes, where the second is to be named.
+            (Some("write-first-of-two"), 12) => {
+                let twice = alphabet.get(refusal.place).filter(|_| refusal.place < *k as usize);
+                twice.and_then(|b| alphabet.iter().position(|a| a == b)).unwrap_or(refusal.place)
             }
-            Err(refusal) => {
-                let place = match (self.broken, refusal.number) {
-                    // The first of two equal bytes, where the second is to be named.
-                    (Some("write-first-of-two"), 12) => {
-                        let twice = alphabet.get(refusal.place).filter(|_| refusal.place < *k as usize);
-                        twice.and_then(|b| alphabet.iter().position(|a| a == b)).unwrap_or(refusal.place)
-                    }
-                    (Some("write-last-surplus"), 12) if refusal.place == *k as usize => alphabet.len() - 1,
-                    (Some("write-missing-at-0"), 12) if refusal.place == alphabet.len() => 0,
-                    _ => refusal.place,
-                };
-                refused(self.placed(Refusal { place, ..refusal }))
-            }
+            (Some("write-last-surplus"), 12) if refusal.place == *k as usize => alphabet.len() - 1,
+            (Some("write-missing-at-0"), 12) if refusal.place == alphabet.len() => 0,
+            (Some("mark-place"), 5) => in_entry(text, refusal.place),
+            _ => refusal.place,
+        };
+        refused(self.placed(Refusal { place, ..refusal }))
+    }
+
+    pub fn write_sheet(self, case: &WriteCase) -> Outcome {
+        let mut bytes = match self.written(case) {
+            Ok(bytes) => bytes,
+            Err(refusal) => return self.refused_writing(case, refusal),
+        };
+        if self.is("write-byte") {
+            let at = bytes.len() - 2;
+            bytes[at] ^= 1;
         }
+        if self.is("write-mark-star") {
+            bytes.iter_mut().filter(|b| **b == b'|').for_each(|b| *b = b'*');
+        }
+        Outcome { answer: bytes.len() as i64, bytes, ..Outcome::default() }
     }
 
     pub fn report(self, sheet: &[u8], cap: usize) -> Outcome {
@@ -375,10 +447,10 @@ impl Expect {
         if let Some(refusal) = self.slipped_read(&sheet) {
             return refused(refusal);
         }
-        let mut answer = report(&sheet);
+        let mut answer = self.reported(&sheet);
         if let (true, Err(Refusal { number: 15, place })) = (self.is("read-15"), &answer) {
             sheet.truncate(*place);
-            answer = report(&sheet);
+            answer = self.reported(&sheet);
         }
         let needed = |bytes: &Vec<u8>| bytes.len() + usize::from(self.is("report-room"));
         let answer = answer.and_then(|bytes| check_room(needed(&bytes), cap).map(|_| bytes));
@@ -393,7 +465,7 @@ impl Expect {
             Err(refusal) => {
                 let mut out = refused(refusal);
                 if self.is("report-writes") && refusal.number == 8 {
-                    out.bytes = report(&sheet).unwrap()[..cap].to_vec();
+                    out.bytes = self.reported(&sheet).unwrap()[..cap].to_vec();
                 }
                 out
             }
@@ -402,15 +474,18 @@ impl Expect {
 
     /// What the program `search` prints, as bytes.
     pub fn printed(self, sheet: &[u8]) -> Outcome {
-        let mut bytes = printed(sheet);
-        let refusal = read(sheet, Room::AMPLE).err();
-        if let Some(refusal) = refusal {
-            let Refusal { number, place } = self.placed_in(sheet, refusal);
-            bytes = format!("refused {number} at {place}\n").into_bytes();
-        }
+        let taken = self.taken_for(sheet);
+        let answer = self.slipped_read(&taken).map_or_else(|| self.reported(&taken), Err);
+        let mut out = match answer {
+            Ok(bytes) => Outcome { bytes, ..Outcome::default() },
+            Err(refusal) => {
+                let Refusal { number, place } = self.placed_in(sheet, refusal);
+                Outcome { bytes: format!("refused {number} at {place}\n").into_bytes(), ..refused(refusal) }
+            }
+        };
         if self.is("line-end") {
-            bytes.pop();
+            out.bytes.pop();
         }
-        Outcome { bytes, ..refusal.map_or_else(Outcome::default, refused) }
+        out
     }
 }

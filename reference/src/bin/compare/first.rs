@@ -4,9 +4,10 @@ use crate::cases::{letter, pair, string};
 use crate::expected::Outcome;
 use crate::library::{self, FirstCase};
 use crate::random::Random;
-use crate::searches::{each_letter, each_limit, each_small_pair, faulty, random_pair, right_pair};
+use crate::searches::{each_letter, each_limit, each_small_pair, faulty, random_pair, right_pair, wrong};
 use crate::{Run, Told};
 use reference::first::first_hit;
+use reference::letters::MARK;
 use reference::refusals::MAX_N;
 
 /// One call, and what was expected of it.
@@ -17,10 +18,12 @@ fn one(run: &mut Run, case: &FirstCase) -> Result<Outcome, String> {
     Ok(due)
 }
 
-/// So many letters behind a hit, the pattern's own among them, so that hits may stand there too.
+/// So many letters behind a hit, the pattern's own among them, so that hits may stand there too, and in half of the
+/// tails marks.
 fn tail(random: &mut Random, k: u32, pattern: &[u32], length: usize) -> Vec<u32> {
     let doubt = random.pick(&[0, 1, 4]);
-    let pool = [random.pick(pattern), random.pick(pattern), letter(random, k, doubt)];
+    let other = letter(random, k, doubt);
+    let pool = [random.pick(pattern), random.pick(pattern), other, random.pick(&[MARK, other])];
     string(random, &pool, length)
 }
 
@@ -93,6 +96,26 @@ fn one_hit(run: &mut Run, k: u32, m: usize, n: usize) -> Told {
             with_tails(run, &FirstCase { k, pattern: pattern.clone(), text, nfound: 2 })?;
         }
     }
+    for start in starts {
+        one_entry(run, k, m, n, start)?;
+    }
+    Ok(())
+}
+
+/// One name among marks: whole; and cut by one more mark, at its first letter, in its middle, at its last one.
+fn one_entry(run: &mut Run, k: u32, m: usize, n: usize, start: usize) -> Told {
+    let pattern = vec![1 << (k - 1); m];
+    let mut text = vec![MARK; n];
+    text[start..start + m].copy_from_slice(&pattern);
+    let case = FirstCase { k, pattern, text, nfound: 2 };
+    with_tails(run, &case)?;
+    let mut cuts = vec![0, m / 2, m - 1];
+    cuts.dedup();
+    for cut in cuts {
+        let mut text = case.text.clone();
+        text[start + cut] = MARK;
+        with_tails(run, &FirstCase { text, ..case.clone() })?;
+    }
     Ok(())
 }
 
@@ -117,20 +140,8 @@ fn refusals(run: &mut Run) -> Told {
     each_letter(|(k, pattern, text)| one(run, &FirstCase { k, pattern, text, nfound: 2 }).map(drop))
 }
 
-/// A letter that is wrong for k: empty, or with a member from k on, alone or beside right ones.
-fn wrong(random: &mut Random, k: u32, right: u32) -> u32 {
-    if k == 32 || random.once_in(3) {
-        return 0;
-    }
-    let above = 1 << random.between(k as usize, 31);
-    if random.once_in(2) {
-        above | right
-    } else {
-        above
-    }
-}
-
 /// Wrong letters behind the first hit, up to three: no test would come to them, and the checks see them all the same.
+/// Marks stand there too, and with 32 base letters marks alone, which are taken.
 fn behind(run: &mut Run) -> Told {
     for _ in 0..run.times(20_000) {
         let random = &mut run.random;
@@ -148,6 +159,10 @@ fn behind(run: &mut Run) -> Told {
         for _ in 0..random.between(1, 3) {
             let at = end + random.index(text.len() - end);
             text[at] = wrong(random, k, text[at]);
+        }
+        if random.once_in(2) {
+            let at = end + random.index(text.len() - end);
+            text[at] = MARK;
         }
         let nfound = random.pick(&[0, 1, 2, 2, 2, 3]);
         one(run, &FirstCase { k, pattern, text, nfound })?;

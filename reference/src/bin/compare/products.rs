@@ -2,7 +2,7 @@
 
 use crate::library::{self, ConvertCase, Way};
 use crate::{Run, Told};
-use reference::letters::whole;
+use reference::letters::{whole, MARK};
 use reference::products::product;
 
 fn convert(run: &mut Run, way: Way, k: u32, values: Vec<u32>, cap: usize) -> Told {
@@ -56,10 +56,12 @@ fn beside(run: &mut Run) -> Told {
     Ok(())
 }
 
-/// A string with at most some wrong values.
+/// A string with marks in it, and with at most some wrong values.
 fn values(run: &mut Run, way: Way, k: u32, n: usize, wrong: usize) -> Vec<u32> {
     let most = whole(k.clamp(1, 9)) as usize;
-    let mut values: Vec<u32> = (0..n).map(|_| run.random.between(1, most) as u32).collect();
+    let random = &mut run.random;
+    let mut letter = || if random.once_in(9) { MARK } else { random.between(1, most) as u32 };
+    let mut values: Vec<u32> = (0..n).map(|_| letter()).collect();
     if let Way::FromProducts = way {
         values.iter_mut().for_each(|v| *v = product(*v));
     }
@@ -73,7 +75,7 @@ fn values(run: &mut Run, way: Way, k: u32, n: usize, wrong: usize) -> Vec<u32> {
 /// Strings: whole tables, the limits of the length, room that is short, exact or ample.
 fn strings(run: &mut Run) -> Told {
     for k in 1..=9 {
-        let letters: Vec<u32> = (1..=whole(k)).collect();
+        let letters: Vec<u32> = (MARK..=whole(k)).collect();
         let products: Vec<u32> = letters.iter().map(|c| product(*c)).collect();
         let n = letters.len();
         for cap in [0, n - 1, n, n + 1, n + 5] {
@@ -112,16 +114,20 @@ fn faults(run: &mut Run) -> Told {
     Ok(())
 }
 
+/// Every letter with every letter, the mark among them, and with 0, which is no product in either place.
 fn pairs(run: &mut Run) -> Told {
     for a in 0..512 {
         for b in 0..512 {
             meet(run, 9, product(a), product(b))?;
         }
+        meet(run, 9, product(a), 0)?;
+        meet(run, 9, 0, product(a))?;
     }
     for k in (0..=33).chain([u32::MAX]) {
         for _ in 0..run.times(4_000) {
             let mut draw = || match run.random.below(8) {
                 0 => run.random.below(40) as u32,
+                3 => run.random.below(2) as u32,
                 1 => run.random.next() as u32,
                 2 => product(run.random.below(512) as u32),
                 _ => product(run.random.next() as u32 & whole(k.clamp(1, 9))),

@@ -2,9 +2,10 @@
 
 use crate::cases::{pair, strings_up_to};
 use crate::library::{self, SearchCase};
+use crate::random::Random;
 use crate::{Run, Told};
 use reference::engines::{Engine, ENGINES};
-use reference::letters::{hits, whole};
+use reference::letters::{hits, whole, MARK};
 
 fn one(run: &mut Run, engine: Engine, case: &SearchCase) -> Told {
     let due = run.expect.search(engine, case);
@@ -19,12 +20,20 @@ fn each(run: &mut Run, case: &SearchCase) -> Told {
 /// k, a pattern and a text.
 pub type Question = (u32, Vec<u32>, Vec<u32>);
 
-/// Every pattern with every text over the letters of k base letters, up to the given lengths. The last that is handed
-/// on is the text's number among all texts.
+/// Every text over the letters of k base letters up to n long, and every one with marks among them up to `marked` long.
+fn small_texts(k: u32, n: usize, marked: usize) -> Vec<Vec<u32>> {
+    let letters: Vec<u32> = (1..=whole(k)).collect();
+    let mut texts = strings_up_to(&[&[MARK], &letters[..]].concat(), marked);
+    texts.retain(|text| text.contains(&MARK));
+    [strings_up_to(&letters, n), texts].concat()
+}
+
+/// Every pattern with every text, up to the given lengths: of a pattern, of a text, of a text with marks. The last that
+/// is handed on is the text's number among all texts.
 pub fn each_small_pair(mut with: impl FnMut(u32, &[u32], &[u32], usize) -> Told) -> Told {
-    for (k, m, n) in [(1, 6, 8), (2, 4, 7), (3, 2, 4), (3, 3, 3)] {
+    for (k, m, n, marked) in [(1, 6, 8, 8), (2, 4, 7, 5), (3, 2, 4, 3), (3, 3, 3, 3)] {
         let letters: Vec<u32> = (1..=whole(k)).collect();
-        let texts = strings_up_to(&letters, n);
+        let texts = small_texts(k, n, marked);
         for pattern in strings_up_to(&letters, m).iter().skip(1) {
             for (index, text) in texts.iter().enumerate() {
                 with(k, pattern, text, index)?;
@@ -98,6 +107,11 @@ fn strings(run: &mut Run, kind: usize, k: u32, m: usize, n: usize) -> (Vec<u32>,
         4 => (all_but(m, m / 2, last), vec![1 | last; n]),
         // A single doubt in the text, once in a pattern's length.
         5 => (vec![1; m], (0..n).map(|q| if q % m == 0 { 1 | last } else { 1 }).collect()),
+        6 => (vec![1; m], vec![MARK; n]),
+        // Entries that just hold the pattern: every hit has a mark behind it, and every other start one under it.
+        7 => (vec![whole(k); m], (0..n).map(|q| if q % (m + 1) == m { MARK } else { 1 | last }).collect()),
+        // Entries that are too short by one.
+        8 => (vec![1; m], (0..n).map(|q| if q % m == m - 1 { MARK } else { 1 }).collect()),
         _ => pair(&mut run.random, k, m, n),
     }
 }
@@ -111,7 +125,7 @@ fn long(n: usize) -> bool {
 pub fn each_limit(run: &mut Run, with: fn(&mut Run, Question) -> Told) -> Told {
     for m in [1, 2, 63, 64] {
         for n in [0, 1, m - 1, m, m + 1, 2 * m, 65_535, 65_536] {
-            for kind in 0..9 {
+            for kind in 0..12 {
                 let ks = if long(n) { &[1, 2, 32][kind % 3..][..1] } else { &[1, 2, 31, 32][..] };
                 for k in ks {
                     let (pattern, text) = strings(run, kind, *k, m, n);
@@ -143,27 +157,39 @@ pub fn right_pair(run: &mut Run) -> Question {
     (k, pattern, text)
 }
 
-/// The five things that can be wrong with a question, 1 to 5, each as a bit of `faults`.
+/// A letter that is wrong in every string for k: with a member from k on, alone or beside right ones. With 32 base
+/// letters there is none, and a mark stands for it: that is wrong in a pattern, and taken in a text.
+pub fn wrong(random: &mut Random, k: u32, letter: u32) -> u32 {
+    if k == 32 {
+        return MARK;
+    }
+    let beside = letter * random.below(2) as u32;
+    1 << random.between(k as usize, 31) | beside
+}
+
+/// Puts up to three letters in that are wrong for k, and marks.
+fn spoil(random: &mut Random, k: u32, letters: &mut Vec<u32>) {
+    if letters.is_empty() {
+        letters.push(MARK);
+    }
+    for _ in 0..random.between(1, 3) {
+        let at = random.index(letters.len());
+        letters[at] = if random.once_in(2) { MARK } else { wrong(random, k, letters[at]) };
+    }
+}
+
+/// The five things that can be wrong with a question, 1 to 5, each as a bit of `faults`. Where only marks come into the
+/// text, that is right.
 pub fn faulty(run: &mut Run, faults: usize, base: &Question) -> Question {
     let (right_k, right_pattern, _) = base;
     let (mut k, mut pattern, mut text) = base.clone();
     let random = &mut run.random;
     let fault = |number: usize| faults >> number & 1 == 1;
-    let mut spoil = |letters: &mut Vec<u32>, k: u32| {
-        if letters.is_empty() {
-            letters.push(0);
-        }
-        for _ in 0..random.between(1, 3) {
-            let above = if k < 32 { 1u32 << random.between(k as usize, 31) } else { 0 };
-            let at = random.index(letters.len());
-            letters[at] = if random.once_in(2) { 0 } else { above | (letters[at] * random.below(2) as u32) };
-        }
-    };
     if fault(3) {
-        spoil(&mut pattern, *right_k);
+        spoil(random, *right_k, &mut pattern);
     }
     if fault(4) {
-        spoil(&mut text, *right_k);
+        spoil(random, *right_k, &mut text);
     }
     if fault(0) {
         k = random.pick(&[0, 33, 34, 64, 255, 256, u32::MAX]);
@@ -172,7 +198,7 @@ pub fn faulty(run: &mut Run, faults: usize, base: &Question) -> Question {
         let m = random.pick(&[0, 65, 66, 128, 300]);
         pattern = (0..m).map(|j| right_pattern[j % right_pattern.len()]).collect();
         if fault(3) && m > 0 {
-            pattern[m - 1] = 0;
+            pattern[m - 1] = MARK;
         }
     }
     if fault(2) {
@@ -185,7 +211,7 @@ pub fn faulty(run: &mut Run, faults: usize, base: &Question) -> Question {
 /// Every k with letters on both sides of its limit, in every kind of place.
 pub fn each_letter(mut with: impl FnMut(Question) -> Told) -> Told {
     for k in 0..=34 {
-        let letters = (0..32).map(|b| 1u32 << b).chain([0, 3, 6, whole(k.min(32)), !0, !0 << 1, !0 >> 1]);
+        let letters = (0..32).map(|b| 1u32 << b).chain([MARK, 3, 6, whole(k.min(32)), !0, !0 << 1, !0 >> 1]);
         for letter in letters {
             for m in [1, 2, 64] {
                 let mut long = vec![1; m];

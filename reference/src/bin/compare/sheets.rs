@@ -2,8 +2,9 @@
 
 use crate::cases::{damage, fill_up, folder_sheets, odd_sheets, pair, sheet, strings_up_to};
 use crate::library::{self, ReadCase, WriteCase};
+use crate::searches::wrong;
 use crate::{Run, Told};
-use reference::letters::whole;
+use reference::letters::{whole, MARK};
 use reference::report::report;
 use reference::sheet::{bytes, Sheet};
 
@@ -35,12 +36,20 @@ fn read_all_rooms(run: &mut Run, sheet: &[u8], k: usize, m: usize, n: usize) -> 
     read_one(run, &ReadCase { nalphabet: 0, npattern: 0, ntext: 0, nsizes: 0, ..exact })
 }
 
-/// Every line of up to five bytes over a small alphabet, as a text line and as a pattern line.
+/// All lines over these bytes, up to so many.
+fn lines(alphabet: &str, others: &[u8], length: usize) -> Vec<Vec<u8>> {
+    let set: Vec<u32> = [alphabet.as_bytes(), others].concat().iter().map(|b| u32::from(*b)).collect();
+    let lines = strings_up_to(&set, length);
+    lines.iter().map(|line| line.iter().map(|b| *b as u8).collect()).collect()
+}
+
+/// Every line of up to five bytes over a small alphabet, as a text line and as a pattern line; with `|` those that have
+/// it in the place of another byte that is no letter.
 fn short_lines(run: &mut Run) -> Told {
     for alphabet in ["a", "ab", "abc"] {
-        let set: Vec<u32> = [alphabet.as_bytes(), b"[]*\nx"].concat().iter().map(|b| u32::from(*b)).collect();
-        for line in strings_up_to(&set, 5) {
-            let line: Vec<u8> = line.iter().map(|b| *b as u8).collect();
+        let mut marked = lines(alphabet, b"[]*\n|", 5);
+        marked.retain(|line| line.contains(&b'|'));
+        for line in lines(alphabet, b"[]*\nx", 5).into_iter().chain(marked) {
             let count = run.random.between(0, line.len());
             let text = format!("{}\n{alphabet}\n1\na\n{count}\n", alphabet.len());
             let sheet = [text.as_bytes(), &line, b"\n"].concat();
@@ -98,9 +107,9 @@ fn spoil_alphabet(run: &mut Run, alphabet: &mut Vec<u8>) {
         let at = random.below(alphabet.len());
         match random.below(5) {
             0 => drop(alphabet.pop()),
-            1 => alphabet.push(random.pick(b"\n[a~0")),
+            1 => alphabet.push(random.pick(b"\n[a~0|")),
             2 => alphabet.extend([b'a'; 40]),
-            3 => alphabet[at] = random.pick(b"[]*\n\r\x1f\x7f\x00\xff\x80\t"),
+            3 => alphabet[at] = random.pick(b"[]*||\n\r\x1f\x7f\x00\xff\x80\t"),
             _ => alphabet[at] = random.pick(&alphabet[..]),
         }
     }
@@ -119,12 +128,13 @@ fn faulty(run: &mut Run, faults: usize) -> WriteCase {
         case.cap = run.random.pick(&[8192, 8193, 70_000]);
     }
     if fault(4) {
-        let wrong = if case.k < 32 { 1 << case.k } else { 0 };
-        case.pattern[right.pattern.len() / 2] = run.random.pick(&[0, wrong]);
+        let wrong = wrong(&mut run.random, case.k, 1);
+        case.pattern[right.pattern.len() / 2] = run.random.pick(&[MARK, wrong]);
     }
     if fault(5) {
-        let wrong = if case.k < 32 { 1 << case.k } else { 0 };
-        case.text.push(run.random.pick(&[0, wrong]));
+        // With a mark before it or behind it in half of the cases.
+        let wrong = wrong(&mut run.random, case.k, 1);
+        case.text.extend(run.random.pick(&[[wrong, 1], [MARK, wrong], [wrong, MARK], [1, wrong]]));
     }
     if fault(1) {
         spoil_alphabet(run, &mut case.alphabet);
@@ -157,22 +167,26 @@ pub fn write(run: &mut Run) -> Told {
         let case = faulty(run, faults);
         write_one(run, &case)?;
     }
-    // Around 8,192 bytes, with single letters and with doubts at the end.
+    write_full(run)
+}
+
+/// Around 8,192 bytes, with single letters, doubts and marks at the end.
+fn write_full(run: &mut Run) -> Told {
     for k in [1, 2, 3, 32] {
         let (pattern, text) = pair(&mut run.random, k, 64, 500);
-        for last in [1, whole(k), whole(k) & !1] {
+        // For one base letter the third of these is the mark too.
+        for last in [1, whole(k), whole(k) & !1, MARK] {
             let alphabet: Vec<u8> = (b'0'..=b'9').chain(b'a'..=b'z').take(k as usize).collect();
             let mut full = Sheet { alphabet, pattern: pattern.clone(), text: text.clone() };
-            if last != 0 {
-                full.text.push(last);
-            }
+            full.text.push(last);
             fill_up(&mut run.random, &mut full, 8190);
             for _ in 0..5 {
                 let length = bytes(&full).len();
                 for cap in [length - 1, length, length + 1, 8192, 9000] {
                     write_one(run, &case_of(&full, cap))?;
                 }
-                full.text.push(1);
+                let letter = run.random.pick(&[1, MARK]);
+                full.text.push(letter);
             }
         }
     }
@@ -185,7 +199,8 @@ fn report_one(run: &mut Run, sheet: &[u8], cap: usize) -> Told {
     run.count("report", &format_args!("sheet \"{}\" into {cap}", sheet.escape_ascii()), &due, seen)
 }
 
-/// The sheets with the longest reports: a hit at every start, or engines that work as hard as they can.
+/// The sheets with the longest reports, a hit at every start, or engines that work as hard as they can; and one of
+/// nothing but marks.
 fn longest() -> Vec<Vec<u8>> {
     let alphabet = b"ab".to_vec();
     let full = |k: usize, pattern: Vec<u32>, letter: u32| {
@@ -195,7 +210,8 @@ fn longest() -> Vec<Vec<u8>> {
         }
         bytes(&sheet)
     };
-    vec![full(1, vec![1], 1), full(1, vec![1; 64], 1), full(2, vec![3; 64], 3), full(2, vec![1; 64], 3)]
+    let hits = [full(1, vec![1], 1), full(1, vec![1; 64], 1), full(2, vec![3; 64], 3), full(2, vec![1; 64], 3)];
+    hits.into_iter().chain([full(2, vec![3; 2], MARK)]).collect()
 }
 
 pub fn reports(run: &mut Run) -> Told {

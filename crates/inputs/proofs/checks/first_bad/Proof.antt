@@ -10,10 +10,10 @@ use Rattle.inputs.proofs.checks.first_bad.Statement.{statement}
 use Rattle.inputs.proofs.checks.first_bad.Tie as tie
 
 abbrev Inv-loop : tie.InvT-loop
-Inv-loop k s i₀ i = ComeTo (bad k) s i
+Inv-loop marks k s i₀ i = ComeTo (bad marks k) s i
 
 abbrev μ-loop : tie.MeasureT-loop
-μ-loop k s i₀ i = length s - i
+μ-loop marks k s i₀ i = length s - i
 
 loop-holds : tie.Need-loop-holds Inv-loop μ-loop
 loop-holds c = come-start _ _

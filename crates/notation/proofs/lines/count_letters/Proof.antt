@@ -13,20 +13,20 @@ use Rattle.notation.proofs.lines.count_letters.Statement.{statement}
 use Rattle.notation.proofs.lines.count_letters.Tie as tie
 
 abbrev Inv-loop : tie.InvT-loop
-Inv-loop alphabet table sheet from at₀ n₀ at n = (past : List ℕ) × Walked alphabet sheet from at n past
+Inv-loop marks alphabet table sheet from at₀ n₀ at n = (past : List ℕ) × Walked marks alphabet sheet from at n past
 
 abbrev μ-loop : tie.MeasureT-loop
-μ-loop alphabet table sheet from at₀ n₀ at n = length sheet - at
+μ-loop marks alphabet table sheet from at₀ n₀ at n = length sheet - at
 
 abbrev start : tie.At-loop Inv-loop μ-loop → tie.Start Inv-loop μ-loop
 start l = l .before .before .before
 
 -- what stood at the place
-stood : (r : tie.After-read-one Inv-loop μ-loop) {o : One} → r .read-one .result ≡ o → let a = start (r .before) .args in oneAt (a .alphabet .now) (r .before .loop .at) (drop (r .before .loop .at) (a .sheet .now)) ≡ o
+stood : (r : tie.After-read-one Inv-loop μ-loop) {o : One} → r .read-one .result ≡ o → let a = start (r .before) .args in oneAt (a .marks) (a .alphabet .now) (r .before .loop .at) (drop (r .before .loop .at) (a .sheet .now)) ≡ o
 stood r e = sym (r .read-one .ensures) ∙ e
 
 loop-holds : tie.Need-loop-holds Inv-loop μ-loop
-loop-holds c = (_, walk-start _ _ _ (c .before .before .pre .within))
+loop-holds c = (_, walk-start _ _ _ _ (c .before .before .pre .within))
 
 read-one-requires : tie.Need-read-one-requires Inv-loop μ-loop
 read-one-requires c κs = let g = start c .pre in record { some = g .some; few = g .few; table = g .table; within = c .loop .inv .1 .within }

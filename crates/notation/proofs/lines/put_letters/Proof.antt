@@ -1,6 +1,7 @@
 -- `notation::lines::put_letters` meets its contract. Assumes nothing.
 use Prim.Native.Nat.{ℕ, _-_, _<_}
 use mathlib.Core.Path.{_≡_, refl, sym, ap, ap₂, _∙_}
+use mathlib.Core.Bool.{Bool}
 use mathlib.Core.List.{List, []}
 use native.Mathlib.Omega.{arith}
 use borrow.Author.Needs.{needs}
@@ -14,27 +15,27 @@ use Rattle.notation.proofs.lines.put_letters.Statement.{statement}
 use Rattle.notation.proofs.lines.put_letters.Tie as tie
 
 -- the letters so far stand over the front of the lent list
-record Put (A s : List ℕ) (from at i : ℕ) (d list : List ℕ) : Type 0 where
+record Put (marks : Bool) (A s : List ℕ) (from at i : ℕ) (d list : List ℕ) : Type 0 where
   past : List ℕ
-  walked : Walked A s from at i past
+  walked : Walked marks A s from at i past
   lists : list ≡ over past d
 
 abbrev Inv-loop : tie.InvT-loop
-Inv-loop alphabet table sheet from list₀ at₀ i₀ list at i = Put alphabet sheet from at i list₀ list
+Inv-loop marks alphabet table sheet from list₀ at₀ i₀ list at i = Put marks alphabet sheet from at i list₀ list
 
 abbrev μ-loop : tie.MeasureT-loop
-μ-loop alphabet table sheet from list₀ at₀ i₀ list at i = length sheet - at
+μ-loop marks alphabet table sheet from list₀ at₀ i₀ list at i = length sheet - at
 
 abbrev start : tie.At-loop Inv-loop μ-loop → tie.Start Inv-loop μ-loop
 start l = l .before .before .before .before
 
 -- what stood at the place
-stood : (r : tie.After-read-one Inv-loop μ-loop) {o : One} → r .read-one .result ≡ o → let a = start (r .before) .args in oneAt (a .alphabet .now) (r .before .loop .at) (drop (r .before .loop .at) (a .sheet .now)) ≡ o
+stood : (r : tie.After-read-one Inv-loop μ-loop) {o : One} → r .read-one .result ≡ o → let a = start (r .before) .args in oneAt (a .marks) (a .alphabet .now) (r .before .loop .at) (drop (r .before .loop .at) (a .sheet .now)) ≡ o
 stood r e = sym (r .read-one .ensures) ∙ e
 
 loop-holds : tie.Need-loop-holds Inv-loop μ-loop
 unfolding over
-loop-holds c = record { past = []; walked = walk-start _ _ _ (c .before .before .before .pre .0 .within); lists = refl }
+loop-holds c = record { past = []; walked = walk-start _ _ _ _ (c .before .before .before .pre .0 .within); lists = refl }
 
 read-one-requires : tie.Need-read-one-requires Inv-loop μ-loop
 read-one-requires c κs = let g = start c .pre .0 in record { some = g .some; few = g .few; table = g .table; within = c .loop .inv .walked .within }

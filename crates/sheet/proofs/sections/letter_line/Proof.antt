@@ -12,20 +12,20 @@ use Rattle.sheet.proofs.sections.letter_line.Tie as tie
 -- the letters were counted
 counted : (n : tie.After-n) →
     let a = n .before .before .before .before .before .args in
-    countedOf (readFrom (a .alphabet .now) out (a .from) (drop (a .from) (a .sheet .now))) ≡ Counted (n .n .given .0 .0) (n .n .given .0 .1 .0)
+    countedOf (readFrom (a .marks) (a .alphabet .now) out (a .from) (drop (a .from) (a .sheet .now))) ≡ Counted (n .n .given .0 .0) (n .n .given .0 .1 .0)
 counted n = sym (n .before .before .count-letters .ensures) ∙ n .n .given .1
 
 returns : tie.Need-returns
-returns c = line-differs _ _ _ _ _ _ _ _ (counted (c .before .before)) (c .if1 .taken)
+returns c = line-differs _ _ _ _ _ _ _ _ _ (counted (c .before .before)) (c .if1 .taken)
 
 returns-2 : tie.Need-returns-2
-returns-2 c = line-roomless _ _ _ _ _ _ _ _ (counted (c .before .before .before)) (c .before .if1 .left) (c .if2 .taken)
+returns-2 c = line-roomless _ _ _ _ _ _ _ _ _ (counted (c .before .before .before)) (c .before .if1 .left) (c .if2 .taken)
 
 returns-3 : tie.Need-returns-3
-returns-3 c = let p = c .before in line-wrong _ _ _ _ _ _ _ (sym (p .before .before .count-letters .ensures) ∙ p .place .given .1)
+returns-3 c = let p = c .before in line-wrong _ _ _ _ _ _ _ _ (sym (p .before .before .count-letters .ensures) ∙ p .place .given .1)
 
 returns-4 : tie.Need-returns-4
-returns-4 c = line-at _ _ _ _ _ _ _ _ (counted (c .before .before .before)) (c .before .if1 .left) (c .if2 .left)
+returns-4 c = line-at _ _ _ _ _ _ _ _ _ (counted (c .before .before .before)) (c .before .if1 .left) (c .if2 .left)
 
 pub letter-line-spec : {M : Type 1} → statement M
 letter-line-spec =

@@ -1,0 +1,48 @@
+/* Times the reader of a sheet: one of 8,192 bytes whose text is single letters, brackets, stars, or entries with marks between them.
+ *   reader [PASSES]    ns a byte, the least of so many passes
+ */
+#define _GNU_SOURCE
+#include "../c/breakwarp.h"
+#include <stdio.h>
+#include <stdlib.h>
+#include <string.h>
+#include <time.h>
+
+static double now(void) {
+  struct timespec t;
+  clock_gettime(CLOCK_MONOTONIC, &t);
+  return (double)t.tv_sec * 1e9 + (double)t.tv_nsec;
+}
+
+/* `unit`, which is `letters` letters, as often as the sheet has room for it */
+static size_t fill(uint8_t *sheet, const char *unit, size_t letters) {
+  const char *head = "26\nabcdefghijklmnopqrstuvwxyz\n4\nanna\n";
+  size_t len = strlen(unit), times = (BREAKWARP_MAX_SHEET - strlen(head) - 6) / len;
+  int at = sprintf((char *)sheet, "%s%zu\n", head, times * letters);
+  for (size_t i = 0; i < times; i++, at += (int)len) memcpy(sheet + at, unit, len);
+  sheet[at] = '\n';
+  return (size_t)at + 1;
+}
+
+int main(int argc, char **argv) {
+  static const struct { const char *name, *unit; size_t letters; } kinds[] = {
+    {"single", "henrybaptised", 13}, {"brackets", "[ae]n[nu]a", 4}, {"stars", "ann*", 4}, {"marks", "ann[ae]|", 5}};
+  static uint8_t sheet[BREAKWARP_MAX_SHEET + 8], alphabet[BREAKWARP_MAX_K];
+  static uint32_t pattern[BREAKWARP_MAX_M], text[BREAKWARP_MAX_SHEET_TEXT];
+  uint64_t sizes[3];
+  int passes = argc > 1 ? atoi(argv[1]) : 2000;
+  for (size_t x = 0; x < sizeof kinds / sizeof *kinds; x++) {
+    size_t len = fill(sheet, kinds[x].unit, kinds[x].letters);
+    double least = 1e18;
+    int64_t r = 0;
+    for (int i = 0; i < passes; i++) {
+      double from = now();
+      r = breakwarp_read_sheet(sheet, len, alphabet, BREAKWARP_MAX_K, pattern, BREAKWARP_MAX_M, text, BREAKWARP_MAX_SHEET_TEXT, sizes, 3);
+      double took = now() - from;
+      if (took < least) least = took;
+    }
+    if (r) printf("reader %-9s refused %d\n", kinds[x].name, (int)BREAKWARP_NUMBER(r));
+    else printf("reader %-9s %.3f ns a byte\n", kinds[x].name, least / (double)len);
+  }
+  return 0;
+}
