@@ -7,7 +7,7 @@ LIB = target/staticlib/libbreakwarp.a
 PROGRAM = target/bin/search
 SOURCES = crates.txt $(shell find crates -name '*.rt' -o -name '*.antt')
 CALLS = brute kmp bm sunday shiftand hybrid first to_products from_products products_meet read_sheet write_sheet report
-.PHONY: help search sheet program lib test bench fmt install uninstall clean
+.PHONY: help search sheet program lib test bench beside fmt install uninstall clean
 .DELETE_ON_ERROR:
 
 help:
@@ -16,6 +16,7 @@ help:
 	@echo 'make lib                                prove the library and build $(LIB)'
 	@echo 'make install DESTDIR=.. PREFIX=..       header, archive, program, manual pages, pkg-config file, example; make uninstall removes them'
 	@echo 'make bench                              time the six searches and the first hit beside the same in plain C, and the reader'
+	@echo 'make beside BEFORE=..                   time the library beside another archive of it, both in one program'
 	@echo 'make fmt                                lay out every .rt and .antt file'
 	@echo 'make clean                              remove target/, where all that is built lies'
 
@@ -73,6 +74,23 @@ bench: $(LIB)
 	@mv $(BENCH)/running.txt $(BENCH)/run.txt
 	@cat $(BENCH)/run.txt
 	@python3 bench/tables.py $(BENCH)/run.txt `ls $(BENCH)/before.txt 2>/dev/null || echo $(BENCH)/run.txt` > $(BENCH)/tables.md
+
+# Two archives in one program, in turn within each pass, so that the machine's drift hits both alike: the library, and in the place of the C engines the
+# archive that BEFORE names. A ratio is now by before.
+ENGINES = brute kmp bm sunday shiftand hybrid first
+BESIDE = $(BENCH)/beside
+beside: $(LIB)
+	@test -r "$(BEFORE)" || { echo 'make beside BEFORE=path/of/another/libbreakwarp.a' >&2; exit 1; }
+	@mkdir -p $(BESIDE)
+	@gcc -E -P bench/engines.c -o $(BENCH)/engines.i.c && $(CC_K) -O3 -c $(BENCH)/engines.i.c -o $(BESIDE)/engines.o
+	@objcopy $(foreach e,$(ENGINES),--redefine-sym c_$(e)=plain_c_$(e)) $(BESIDE)/engines.o
+	@ar p "$(BEFORE)" breakwarp.o > $(BESIDE)/before.o
+	@objcopy --redefine-sym breakwarp_read_sheet=before_read_sheet $(foreach e,$(ENGINES),--redefine-sym breakwarp_$(e)=c_$(e)) $(BESIDE)/before.o
+	@objcopy --keep-global-symbol=before_read_sheet $(foreach e,$(ENGINES),--keep-global-symbol=c_$(e)) $(BESIDE)/before.o
+	@gcc -DPAD=0 -c bench/pad.c -o $(BESIDE)/pad.o && gcc -std=c11 -O2 -Wall -Wextra -c bench/bench.c -o $(BESIDE)/bench.o
+	@gcc -o $(BESIDE)/bench $(BESIDE)/bench.o $(BESIDE)/engines.o $(BESIDE)/before.o $(BESIDE)/pad.o $(LIB)
+	@gcc -std=c11 -O2 -Wall -Wextra -DBESIDE -o $(BESIDE)/reader bench/reader.c $(BESIDE)/before.o $(LIB)
+	@$(BESIDE)/bench && echo && $(BESIDE)/bench first && echo && $(BESIDE)/reader
 
 fmt:
 	rt fmt

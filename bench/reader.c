@@ -1,5 +1,6 @@
 /* Times the reader of a sheet: one of 8,192 bytes whose text is single letters, brackets, stars, or entries with marks between them.
  *   reader [PASSES]    ns a byte, the least of so many passes
+ * Built with BESIDE it times a second reader in turn with the first, that of another archive, and prints the ratio too.
  */
 #define _GNU_SOURCE
 #include "../c/breakwarp.h"
@@ -7,6 +8,15 @@
 #include <stdlib.h>
 #include <string.h>
 #include <time.h>
+
+typedef int64_t read_fn(const uint8_t *, size_t, uint8_t *, size_t, uint32_t *, size_t, uint32_t *, size_t, uint64_t *, size_t);
+#ifdef BESIDE
+read_fn before_read_sheet;
+static read_fn *const READ[] = {breakwarp_read_sheet, before_read_sheet};
+#else
+static read_fn *const READ[] = {breakwarp_read_sheet};
+#endif
+#define READERS (sizeof READ / sizeof *READ)
 
 static double now(void) {
   struct timespec t;
@@ -24,25 +34,37 @@ static size_t fill(uint8_t *sheet, const char *unit, size_t letters) {
   return (size_t)at + 1;
 }
 
+/* The least time of each reader, in ns; what the last one answered. */
+static int64_t least(const uint8_t *sheet, size_t len, int passes, double *best) {
+  static uint8_t alphabet[BREAKWARP_MAX_K];
+  static uint32_t pattern[BREAKWARP_MAX_M], text[BREAKWARP_MAX_SHEET_TEXT];
+  uint64_t sizes[3];
+  int64_t r = 0;
+  for (int i = 0; i < passes; i++)
+    for (size_t v = 0; v < READERS; v++) {
+      double from = now();
+      r = READ[v](sheet, len, alphabet, BREAKWARP_MAX_K, pattern, BREAKWARP_MAX_M, text, BREAKWARP_MAX_SHEET_TEXT, sizes, 3);
+      double took = now() - from;
+      if (i == 0 || took < best[v]) best[v] = took;
+    }
+  return r;
+}
+
 int main(int argc, char **argv) {
   static const struct { const char *name, *unit; size_t letters; } kinds[] = {
     {"single", "henrybaptised", 13}, {"brackets", "[ae]n[nu]a", 4}, {"stars", "ann*", 4}, {"marks", "ann[ae]|", 5}};
-  static uint8_t sheet[BREAKWARP_MAX_SHEET + 8], alphabet[BREAKWARP_MAX_K];
-  static uint32_t pattern[BREAKWARP_MAX_M], text[BREAKWARP_MAX_SHEET_TEXT];
-  uint64_t sizes[3];
+  static uint8_t sheet[BREAKWARP_MAX_SHEET + 8];
   int passes = argc > 1 ? atoi(argv[1]) : 2000;
   for (size_t x = 0; x < sizeof kinds / sizeof *kinds; x++) {
+    double best[READERS];
     size_t len = fill(sheet, kinds[x].unit, kinds[x].letters);
-    double least = 1e18;
-    int64_t r = 0;
-    for (int i = 0; i < passes; i++) {
-      double from = now();
-      r = breakwarp_read_sheet(sheet, len, alphabet, BREAKWARP_MAX_K, pattern, BREAKWARP_MAX_M, text, BREAKWARP_MAX_SHEET_TEXT, sizes, 3);
-      double took = now() - from;
-      if (took < least) least = took;
+    if (least(sheet, len, passes, best) < 0) {
+      printf("reader %-9s refused by the last one\n", kinds[x].name);
+      continue;
     }
-    if (r) printf("reader %-9s refused %d\n", kinds[x].name, (int)BREAKWARP_NUMBER(r));
-    else printf("reader %-9s %.3f ns a byte\n", kinds[x].name, least / (double)len);
+    printf("reader %-9s %.3f ns a byte", kinds[x].name, best[0] / (double)len);
+    if (READERS > 1) printf(", %.3f of the one before", best[0] / best[READERS - 1]);
+    puts("");
   }
   return 0;
 }
