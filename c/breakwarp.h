@@ -35,7 +35,7 @@
 extern "C" {
 #endif
 
-#define BREAKWARP_VERSION "1.2"
+#define BREAKWARP_VERSION "1.3"
 
 /* Limits. */
 #define BREAKWARP_MAX_K 32            /* base letters */
@@ -68,6 +68,7 @@ extern "C" {
 #define BREAKWARP_REFUSED_NOTATION 13 /* letter notation wrong: the first wrong byte */
 #define BREAKWARP_REFUSED_DIFFERS 14  /* letters read differ from the count: its first byte */
 #define BREAKWARP_REFUSED_AFTER 15    /* bytes after the last section: the first of them */
+#define BREAKWARP_REFUSED_START 16    /* start + m exceeds n */
 
 /* The six searches. They take k, m letters of pattern and n letters of text, write the first hits,
  * ascending, as many as `hits` holds (cap), and the three counts of work: work[0] scan tests,
@@ -96,6 +97,26 @@ int64_t breakwarp_hybrid(uint32_t k, const uint32_t *pattern, size_t m, const ui
  * numbers are lent, whether there is a hit or not. */
 int64_t breakwarp_first(uint32_t k, const uint32_t *pattern, size_t m, const uint32_t *text,
                         size_t n, uint64_t *found, size_t nfound);
+
+/* The bound mode: one sign, one letter. A choice gives every letter, that is every set, one of its
+ * members, the same wherever that set stands in the pattern or under it; a start is bound-listed if
+ * i + m is at most n and some choice gives each pattern letter the same member as the text letter
+ * under it. Every bound-listed start is a hit; where all letters are single, every hit is one.
+ *
+ * breakwarp_bound writes the first bound-listed starts, ascending, as many as `hits` holds (cap),
+ * and returns the total of them all; a list too short is no refusal. There are no counts of work.
+ * Refusals, in this order: 1, 2, 3, 4, 5.
+ *
+ * breakwarp_bound_choice asks about one start, which may be any number. Returns 1 if it is
+ * bound-listed: choice[j] is the number of the base letter that pattern letter j stands for, the
+ * lowest that any choice gives it; all of them are lowest in one choice (proved). Returns 0 if it
+ * is not, and writes nothing. Refusals, in this order: 1, 2, 3, 4, 5, then 16 if start + m exceeds
+ * n, then 8 if fewer than m numbers are lent, whether the start is bound-listed or not. */
+int64_t breakwarp_bound(uint32_t k, const uint32_t *pattern, size_t m, const uint32_t *text,
+                        size_t n, uint32_t *hits, size_t cap);
+int64_t breakwarp_bound_choice(uint32_t k, const uint32_t *pattern, size_t m,
+                               const uint32_t *text, size_t n, size_t start, uint32_t *choice,
+                               size_t cap);
 
 /* Letters to prime products: base letter b stands for the prime at b in 2, 3, 5, 7, 11, 13, 17,
  * 19, 23, and a letter for the product of its members' primes; so an entry mark, 0, for 1. Writes

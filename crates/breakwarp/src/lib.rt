@@ -1,6 +1,7 @@
 // The library for C: each function is a shell over one call. It keeps no state and uses no heap.
 mod twice;
 
+use bound::c::choice_called;
 use letters::letter::Letter;
 use letters::strings::Pattern;
 use letters::strings::Text;
@@ -20,6 +21,7 @@ ghost use Rattle.shiftand.specs.ShiftAnd.{shiftandRun};
 ghost use Rattle.hybrid.specs.Hybrid.{hybridRun};
 ghost use Rattle.codes.specs.Called.{Called};
 ghost use Rattle.first.specs.Called.{FirstCalled};
+ghost use Rattle.bound.specs.Called.{BoundCalled, ChoiceCalled};
 ghost use Rattle.products.specs.Calls.{ToCalled, FromCalled, MeetCalled};
 ghost use Rattle.sheet.specs.Called.{ReadCalled};
 ghost use Rattle.writer.specs.Writer.{WriteCalled};
@@ -108,6 +110,26 @@ pub extern "C" fn breakwarp_first(k: u32, p: &[u32], t: &[u32], found: &mut [u64
     ensures { λ r. do ⌜ FirstCalled (← ⟦Letter::MAX_K⟧ .entry) (← ⟦Pattern::MAX_M⟧ .entry) (← ⟦Text::MAX_N⟧ .entry) k (now (p .entry)) (now (t .entry)) (now (found .entry)) r (now (found .exit)) ⌝ }
 {
     first::c::called(k, p, t, found)
+}
+
+#[no_mangle]
+pub extern "C" fn breakwarp_bound(k: u32, p: &[u32], t: &[u32], hits: &mut [u32]) -> i64
+    ensures { λ r. do ⌜ BoundCalled (← ⟦Letter::MAX_K⟧ .entry) (← ⟦Pattern::MAX_M⟧ .entry) (← ⟦Text::MAX_N⟧ .entry) k (now (p .entry)) (now (t .entry)) (now (hits .entry)) r (now (hits .exit)) ⌝ }
+{
+    bound::c::called(k, p, t, hits)
+}
+
+#[no_mangle]
+pub extern "C" fn breakwarp_bound_choice(
+    k: u32,
+    p: &[u32],
+    t: &[u32],
+    start: usize,
+    choice: &mut [u32],
+) -> i64
+    ensures { λ r. do ⌜ ChoiceCalled (← ⟦Letter::MAX_K⟧ .entry) (← ⟦Pattern::MAX_M⟧ .entry) (← ⟦Text::MAX_N⟧ .entry) k (now (p .entry)) (now (t .entry)) start (now (choice .entry)) r (now (choice .exit)) ⌝ }
+{
+    choice_called(k, p, t, start, choice)
 }
 
 #[no_mangle]

@@ -1,5 +1,7 @@
 // Each call made twice, on equal inputs: equal answers, and equal lent memory.
 use crate::breakwarp_bm;
+use crate::breakwarp_bound;
+use crate::breakwarp_bound_choice;
 use crate::breakwarp_brute;
 use crate::breakwarp_first;
 use crate::breakwarp_from_products;
@@ -130,6 +132,31 @@ fn first_twice(k: u32, p: &[u32], t: &[u32], a: &mut [u64], b: &mut [u64]) -> Co
 {
     let first = breakwarp_first(k, p, t, a);
     let second = breakwarp_first(k, p, t, b);
+    Codes { first, second }
+}
+
+fn bound_twice(k: u32, p: &[u32], t: &[u32], a: &mut [u32], b: &mut [u32]) -> Codes
+    requires { ⌜ now a ≡ now b ⌝ }
+    ensures { λ r. ⌜ (r .first ≡ r .second) × (now (a .exit) ≡ now (b .exit)) ⌝ }
+{
+    let first = breakwarp_bound(k, p, t, a);
+    let second = breakwarp_bound(k, p, t, b);
+    Codes { first, second }
+}
+
+fn bound_choice_twice(
+    k: u32,
+    p: &[u32],
+    t: &[u32],
+    start: usize,
+    a: &mut [u32],
+    b: &mut [u32],
+) -> Codes
+    requires { ⌜ now a ≡ now b ⌝ }
+    ensures { λ r. ⌜ (r .first ≡ r .second) × (now (a .exit) ≡ now (b .exit)) ⌝ }
+{
+    let first = breakwarp_bound_choice(k, p, t, start, a);
+    let second = breakwarp_bound_choice(k, p, t, start, b);
     Codes { first, second }
 }
 

@@ -14,7 +14,7 @@ use lib.Seq.{getD-take}
 use Rattle.letters.specs.Members.{keep}
 use Rattle.letters.specs.Sizes.{Sized}
 use Rattle.letters.proofs.Truth.{bool-cases}
-use Rattle.hits.specs.Hits.{within, hitAt, hitsFrom, hits}
+use Rattle.hits.specs.Hits.{within, hitAt, startsFrom, hitsFrom, hits}
 use Rattle.hits.specs.Scans.{reach}
 use Rattle.hits.specs.Turns.{Run, idle, after, run, unlessFound, runFirst}
 use Rattle.hits.proofs.HitLaws.{hit-is, hit-fits}
@@ -78,7 +78,7 @@ module _ (P T : List ℕ) where
 
   -- the head of the list is the first hit
   head-from : (c a s : ℕ) (ss : List ℕ) → hitsFrom P T c a ≡ s ∷ ss → (hitAt P T s ≡ true) × (a ≤ s) × ((i : ℕ) → a ≤ i → i < s → hitAt P T i ≡ false)
-  unfolding hitsFrom
+  unfolding startsFrom
   head-from zero a s ss e = absurd (let z : 0 ≡ suc (length ss) = ap length e in omega arith)
   head-from (suc c) a s ss e =
       bool-cases (hitAt P T a)

@@ -13,8 +13,9 @@ use lib.ListN.{length, getD}
 use Rattle.letters.specs.Letters.{meets}
 use Rattle.letters.specs.Members.{keep}
 use Rattle.letters.proofs.Truth.{and-true-l, and-true-r}
-use Rattle.hits.specs.Hits.{met, hitAt, hitsFrom, hits}
+use Rattle.hits.specs.Hits.{met, hitAt, startsFrom, hitsFrom, hits}
 use Rattle.hits.proofs.MetLaws.{meetsAt, met-fail}
+use Rattle.hits.proofs.StartLaws.{none-starts, starts-add, length-starts}
 
 module _ (P T : List ℕ) (i : ℕ) where
   -- a start that fits is a hit exactly if all letters meet
@@ -43,45 +44,29 @@ module _ (P T : List ℕ) where
 
   -- starts that are no hits give none
   pub none-from : (c a : ℕ) → ((i : ℕ) → a ≤ i → i < a + c → hitAt P T i ≡ false) → hitsFrom P T c a ≡ []
-  unfolding hitsFrom
-  none-from zero a h = refl
-  none-from (suc c) a h = rw (h a (omega arith) (omega arith)) (none-from c (suc a) (λ i l k. h i (omega arith) (omega arith)))
+  none-from = none-starts (hitAt P T)
 
   pub past-from : (c a : ℕ) → length T < a + length P → hitsFrom P T c a ≡ []
   past-from c a h = none-from c a (λ i l k. no-hit-past i (omega arith))
 
   -- a start that is tested, and starts after it that are no hits
   pub one-from : (c a : ℕ) → ((i : ℕ) → a < i → i < a + suc c → hitAt P T i ≡ false) → hitsFrom P T (suc c) a ≡ keep (hitAt P T a) a []
-  unfolding hitsFrom
+  unfolding startsFrom
   one-from c a h = ap (keep (hitAt P T a) a) (none-from c (suc a) (λ i l k. h i (omega arith) (omega arith)))
-
-  keep-append : (b : Bool) (a : ℕ) (xs ys : List ℕ) → keep b a (xs ++ ys) ≡ keep b a xs ++ ys
-  keep-append true a xs ys = refl
-  keep-append false a xs ys = refl
 
   -- c + d starts are c starts and then d
   pub from-add : (c d a : ℕ) → hitsFrom P T (c + d) a ≡ hitsFrom P T c a ++ hitsFrom P T d (a + c)
-  unfolding hitsFrom
-  from-add zero d a = rw (zero-add d, add-zero a)
-  from-add (suc c) d a =
-      rw (suc-add c d, from-add c d (suc a), suc-add a c, add-suc a c)
-      (keep-append (hitAt P T a) a (hitsFrom P T c (suc a)) (hitsFrom P T d (suc (a + c))))
+  from-add = starts-add (hitAt P T)
 
   -- past the text's end nothing is added
   pub from-enough : (c d a : ℕ) → length T < c + a → length T < d + a → hitsFrom P T c a ≡ hitsFrom P T d a
-  unfolding hitsFrom
+  unfolding startsFrom
   from-enough zero d a h k = sym (past-from d a (omega arith))
   from-enough (suc c) zero a h k = past-from (suc c) a (omega arith)
   from-enough (suc c) (suc d) a h k = rw (from-enough c d (suc a) (omega arith) (omega arith))
 
-  length-keep : (b : Bool) (a : ℕ) (xs : List ℕ) → length (keep b a xs) ≤ suc (length xs)
-  length-keep true a xs = le-refl _
-  length-keep false a xs = omega arith
-
   pub length-from : (c a : ℕ) → length (hitsFrom P T c a) ≤ c
-  unfolding hitsFrom
-  length-from zero a = zero-le
-  length-from (suc c) a = omega (arith, length-keep (hitAt P T a) a (hitsFrom P T c (suc a)), length-from c (suc a))
+  length-from = length-starts (hitAt P T)
 
   pub length-hits : length (hits P T) ≤ suc (length T)
   unfolding hits

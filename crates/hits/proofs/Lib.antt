@@ -1,10 +1,11 @@
 pub mod MetLaws
+pub mod ListLaws
+pub mod StartLaws
 pub mod HitLaws
 pub mod ScanLaws
 pub mod SingleLaws
 pub mod BackLaws
 pub mod SureLaws
-pub mod ListLaws
 pub mod RunLaws
 pub mod LoopLaws
 pub mod Meaning

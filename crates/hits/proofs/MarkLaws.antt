@@ -12,7 +12,7 @@ use Rattle.letters.specs.Letters.{meets}
 use Rattle.letters.specs.Members.{keep}
 use Rattle.letters.proofs.LetterLaws.{none-meets}
 use Rattle.letters.proofs.Truth.{bool-cases, both-ways}
-use Rattle.hits.specs.Hits.{met, hitAt, hitsFrom, hits}
+use Rattle.hits.specs.Hits.{met, hitAt, startsFrom, hitsFrom, hits}
 use Rattle.hits.proofs.MetLaws.{meetsAt, met-same}
 use Rattle.hits.proofs.HitLaws.{hit-is, no-hit, no-hit-past, from-add}
 
@@ -23,7 +23,7 @@ module _ (P T : List ℕ) (i : ℕ) where
 
 -- starts that are hits of both texts, or of neither, moved up by d
 from-moved : (P T U : List ℕ) (d c a : ℕ) → ((i : ℕ) → a ≤ i → i < a + c → hitAt P T (d + i) ≡ hitAt P U i) → hitsFrom P T c (d + a) ≡ map (λ i. d + i) (hitsFrom P U c a)
-unfolding hitsFrom
+unfolding startsFrom
 from-moved P T U d zero a h = refl
 from-moved P T U d (suc c) a h =
     let z : suc (d + a) ≡ d + suc a = omega arith in

@@ -8,7 +8,7 @@ use borrow.Author.Tests.{leb-true, leb-false, eqb-true}
 use lib.Dec.{eqb, leb}
 use lib.ListN.{length, getD}
 use Rattle.letters.proofs.Truth.{bool-cases}
-use Rattle.hits.specs.Hits.{hitsFrom}
+use Rattle.hits.specs.Hits.{startsFrom, hitsFrom}
 use Rattle.hits.proofs.HitLaws.{none-from, past-from}
 use Rattle.word.specs.State.{Means}
 use Rattle.word.specs.Word.{stepped}
@@ -46,7 +46,7 @@ module _ (P T : List ℕ) (a : ℕ) (p : 0 < length P) where
 
   -- a step to e settles the start that lies m before e, if it is not below a
   fine-step : (e w : ℕ) (r : Stretch) → a ≤ e → e < length T → Means P T a (e + 1) (digits w) → Fine P T a (e + 1) r → Fine P T a e (stepTo P (e + 1) w r)
-  unfolding hitsFrom
+  unfolding startsFrom
   fine-step e w r l k m f =
       let g : r .next ≡ e + 1 + r .steps = f .ahead in
       let h = f .finds in

@@ -2,13 +2,13 @@
 use mathlib.Core.Path.{_≡_, refl}
 use mathlib.Core.Bool.{Bool, true, false}
 use mathlib.Core.List.{List}
-use Prim.Native.Nat.{ℕ, _≤_, _<_}
+use Prim.Native.Nat.{ℕ, _+_, _≤_, _<_}
 use borrow.Author.Tests.{ltb-false, le-ltb, lt-ltb}
 use lib.ListN.{length}
 use Rattle.letters.specs.First.{firstWith, someWith}
 use Rattle.letters.specs.Sizes.{Sized, outside}
 use Rattle.letters.proofs.SizeLaws.{inside-least, inside-most}
-use Rattle.inputs.specs.Refusals.{bad, verdict, refuse, both, withRoom}
+use Rattle.inputs.specs.Refusals.{bad, verdict, verdictAt, refuse, both, withRoom}
 use Rattle.inputs.specs.declared.refusal.Check.{Check}
 use Rattle.inputs.specs.declared.refusal.Check.the-variants.{Passed, Refused}
 use Rattle.inputs.specs.declared.refusal.Refusal.{Refusal}
@@ -74,3 +74,11 @@ room-passed needed lent (Refused r) l = refl
 pub room-short : (needed lent : ℕ) (c : Check) → lent < needed → c ≡ Passed → withRoom needed lent c ≡ Refused (record { number = 8; place = 0 })
 unfolding withRoom refuse
 room-short needed lent c l e = rw (e, lt-ltb lent needed l)
+
+-- what passed the checks about a start fits there, and has room
+pub placed-at : (K M N k : ℕ) (P T : List ℕ) (i lent : ℕ) → verdictAt K M N k P T i lent ≡ Passed → Sized M N P T × (i + length P ≤ length T) × (length P ≤ lent)
+unfolding verdictAt
+placed-at K M N k P T i lent e =
+    let f = both-first _ _ e in
+    let s = both-second (verdict K M N k P T) _ e in
+    (sized K M N k P T f, ltb-false _ _ (passed-by _ _ _ _ s), ltb-false _ _ (passed-by _ _ _ _ (passed-on _ _ _ _ s)))

@@ -5,7 +5,8 @@
 --   verdict           the checks of a search
 --   both c c′         the checks c, and where they pass the checks c′
 --   withRoom          8, after the other checks, where too little is lent
-use Prim.Native.Nat.{ℕ, _^_}
+--   verdictAt         the checks of a call that asks about one start and writes an element for each letter of the pattern
+use Prim.Native.Nat.{ℕ, _+_, _^_}
 use mathlib.Core.Bool.{Bool, true, false, _||_}
 use mathlib.Core.List.{List}
 use lib.Dec.{eqb, leb, ltb}
@@ -43,3 +44,11 @@ both Passed c = c
 -- 8, after all other checks, where fewer elements are lent than are needed
 unfoldable pub withRoom : ℕ → ℕ → Check → Check
 withRoom needed lent c = both c (refuse (ltb lent needed) 8 0 Passed)
+
+-- those of a search; then 16 where P does not fit into T from start i on; then 8 where fewer elements are lent than P has letters
+unfoldable pub verdictAt : ℕ → ℕ → ℕ → ℕ → List ℕ → List ℕ → ℕ → ℕ → Check
+verdictAt K M N k P T i lent =
+    both (verdict K M N k P T)
+    (refuse (ltb (length T) (i + length P)) 16 0
+    (refuse (ltb lent (length P)) 8 0
+    Passed))

@@ -1,4 +1,4 @@
-// The checks 1 to 5 of a search, in this order.
+// The checks 1 to 5 of a search, in this order; and those of a call that asks about one start.
 use crate::refusal::Check;
 use crate::refusal::refused;
 use letters::letter::Letter;
@@ -7,9 +7,10 @@ use letters::strings::Pattern;
 use letters::strings::Text;
 use letters::width::wide;
 ghost use mathlib.Core.Path.{_≡_};
-ghost use Prim.Native.Nat.{_≤_};
+ghost use Prim.Native.Nat.{_+_, _≤_};
+ghost use lib.Dec.{ltb};
 ghost use Rattle.letters.specs.First.{firstWith, someWith};
-ghost use Rattle.inputs.specs.Refusals.{bad, verdict};
+ghost use Rattle.inputs.specs.Refusals.{bad, refuse, verdict, verdictAt};
 
 // Whether c is no letter of a string over an alphabet of k, in which marks may stand or not.
 pub fn is_bad(marks: bool, k: u32, c: u32) -> bool
@@ -79,4 +80,30 @@ pub fn checked(k: u32, p: &[u32], t: &[u32]) -> Check
         return refused(5, first_bad(Text::MARKS, k, t));
     }
     Check::Passed
+}
+
+// 16 where m letters do not fit into n from the start on, then 8 where fewer than m elements are lent. The start may be any number: no sum is made that may not fit.
+fn placed(m: usize, n: usize, start: usize, lent: usize) -> Check
+    ensures { λ r. ⌜ r ≡ refuse (ltb n (start + m)) 16 0 (refuse (ltb lent m) 8 0 Check.Passed) ⌝ }
+{
+    if n < m {
+        return refused(16, 0);
+    }
+    if n - m < start {
+        return refused(16, 0);
+    }
+    if lent < m {
+        return refused(8, 0);
+    }
+    Check::Passed
+}
+
+// What the checks say of a call that asks about one start and writes an element for each letter of the pattern.
+pub fn checked_at(k: u32, p: &[u32], t: &[u32], start: usize, lent: usize) -> Check
+    ensures { λ r. do ⌜ r ≡ verdictAt (← ⟦Letter::MAX_K⟧ .entry) (← ⟦Pattern::MAX_M⟧ .entry) (← ⟦Text::MAX_N⟧ .entry) k (now (p .entry)) (now (t .entry)) start lent ⌝ }
+{
+    match checked(k, p, t) {
+        Check::Refused(r) => Check::Refused(r),
+        Check::Passed => placed(p.len(), t.len(), start, lent),
+    }
 }

@@ -56,6 +56,13 @@ pub fn meet(a: u32, b: u32) -> bool
     Letter::of(a).meets(Letter::of(b))
 }
 
+// The common members of two letters.
+pub fn common(a: u32, b: u32) -> u32
+    ensures { λ r. ⌜ r ≡ shared a b ⌝ }
+{
+    Letter::of(a).shared(Letter::of(b)).bits
+}
+
 // Whether a letter of a lent string has one member.
 pub fn lone(c: u32) -> bool
     ensures { λ r. ⌜ r ≡ single c ⌝ }

@@ -9,7 +9,7 @@ use lib.Dec.{ltb}
 use lib.ListN.{length, length-append}
 use Rattle.letters.specs.Sizes.{Sized}
 use Rattle.letters.proofs.Truth.{bool-cases}
-use Rattle.hits.specs.Hits.{hitAt, hitsFrom, hits}
+use Rattle.hits.specs.Hits.{hitAt, startsFrom, hitsFrom, hits}
 use Rattle.hits.proofs.HitLaws.{from-enough, length-hits}
 use Rattle.decimal.specs.Decimal.{decimalTo, decimal, ended}
 use Rattle.decimal.proofs.DecimalLaws.{dec-small, dec-more, ended-length, ended-short}
@@ -58,7 +58,7 @@ sizes-one (suc w) a l h =
 
 module _ (P T : List ℕ) where
   lines-from : (c a : ℕ) → a + c ≤ 10 ^ 20 → length (startLines (hitsFrom P T c a)) + sizes 19 a ≤ sizes 19 (a + c)
-  unfolding hitsFrom startLines
+  unfolding startsFrom startLines
   lines-from zero a h = let z : a + zero ≡ a = omega arith in rw z (omega arith)
   lines-from (suc c) a h =
       let z : a + suc c ≡ suc a + c = omega arith in

@@ -10,7 +10,7 @@ use lib.Dec.{leb, ltb}
 use lib.ListN.{length, getD}
 use Rattle.letters.specs.Members.{keep}
 use Rattle.letters.proofs.Truth.{bool-cases, and-true-r}
-use Rattle.hits.specs.Hits.{hitAt, hits, hitsFrom}
+use Rattle.hits.specs.Hits.{hitAt, hits, startsFrom, hitsFrom}
 use Rattle.hits.specs.Turns.{Turn, Run, idle, run}
 use Rattle.hits.proofs.RunLaws.{Sound, Fair, run-stop, run-on, finds-all, bounded}
 use Rattle.word.specs.State.{Means}
@@ -49,7 +49,7 @@ module _ (P T : List ℕ) where
         (top-hit P T 0 (s .read + 1) (stepped P (getD T (s .read) 0) (s .word)) (stepped-means P T 0 (s .read) (s .word) o (omega arith)) p (omega arith)))
 
     turn-fair : (s : Reading) → Ok s → s .read < length T → Fair P T (λ (s : Reading). length T - s .read) settled Ok s (shiftandTurn P T s)
-    unfolding shiftandTurn hitsFrom
+    unfolding shiftandTurn startsFrom
     turn-fair s o l =
         record {
           falls = omega arith;

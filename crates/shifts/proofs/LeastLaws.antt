@@ -6,9 +6,9 @@ use Prim.Native.Nat.{ℕ, zero, suc, _+_, _-_, _≤_, _<_, min}
 use native.Mathlib.Nat.{eq-or-lt-of-le}
 use native.Mathlib.Numerals.{add-one}
 use native.Mathlib.Omega.{arith}
-use borrow.Author.Tests.{ltb-true, ltb-false}
-use lib.Dec.{ltb}
-use Rattle.letters.proofs.Truth.{bool-cases}
+use borrow.Author.Tests.{ltb-true, ltb-false, leb-true, leb-false}
+use lib.Dec.{leb, ltb}
+use Rattle.letters.proofs.Truth.{bool-cases, both-ways}
 use Rattle.shifts.specs.Least.{least}
 
 module _ (b : ℕ → Bool) where
@@ -45,6 +45,20 @@ module _ (b : ℕ → Bool) where
       bool-cases (b from)
       (λ y. let l′ = rw y at l in absurd (omega arith))
       (λ n. let l′ = rw n at l in ⊎-elim (λ (q : from ≡ j). rw (← q) n) (λ (q : from < j). least-first (suc from) f j q l′) (eq-or-lt-of-le a))
+
+  -- none that has the property is below it
+  pub least-low : (from f s : ℕ) → from ≤ s → b s ≡ true → least b from f ≤ s
+  least-low from f s l e =
+      bool-cases (leb (least b from f) s)
+      (λ y. leb-true _ _ y)
+      (λ n. absurd (both-ways (b s) e (least-first from f s l (leb-false _ _ n))))
+
+  -- where it is not the number after them all, it has the property
+  pub least-at : (from f : ℕ) → least b from f < from + f → b (least b from f) ≡ true
+  unfolding least
+  least-at from zero l = absurd (omega arith)
+  least-at from (suc f) l =
+      bool-cases (b from) (λ y. rw y y) (λ n. let l′ = rw n at l in rw n (least-at (suc from) f (omega arith)))
 
   -- it is the one that has the property and that none before it has
   pub least-is : (from f s : ℕ) → from ≤ s → s ≤ from + f → ((j : ℕ) → from ≤ j → j < s → b j ≡ false) → b s ≡ true → least b from f ≡ s

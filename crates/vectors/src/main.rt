@@ -1,5 +1,8 @@
-// The examples that are run: both sides of every limit, by all six engines and for the first hit alone, and sheets whose refusal names a place. What is
+// The examples that are run: both sides of every limit, by all six engines, for the first hit alone and in the bound mode, and sheets whose refusal names a place. What is
 // printed is held to the file stdout.
+use bound::Bound;
+use bound::choice::Choice;
+use bound::choice::choose;
 use engines::engine::Engine;
 use engines::search;
 use first::First;
@@ -209,6 +212,60 @@ fn cut_name() {
     say_first(first::search(3, &p[..1], &t[2..3]));
 }
 
+fn say_bound(b: Bound) {
+    match b {
+        Bound::Refused(r) => say_refusal(r),
+        Bound::Total(n) => say_number(n as u64, b"\n"),
+    }
+}
+
+fn say_choice(a: Choice) {
+    match a {
+        Choice::Refused(r) => say_refusal(r),
+        Choice::Unlisted => words(b"not listed\n"),
+        Choice::Made => words(b"listed\n"),
+    }
+}
+
+// The longest pattern of one unsure letter in its own sets, once with a letter at the end that is none of them; and one letter too many.
+fn bound_of_m() {
+    let longer = [3u32; 65];
+    let mut text = [3u32; 66];
+    let mut list = [9u32; 2];
+    words(b"bound, m 64 in 66, and with another letter at the end; m 65\n");
+    say_bound(bound::search(2, &longer[..64], &text, &mut list));
+    text[65] = 4;
+    say_bound(bound::search(3, &longer[..64], &text, &mut list));
+    say_bound(bound::search(2, &longer, &text, &mut list));
+    say_number(wide(list[0]), b" ");
+    say_number(wide(list[1]), b"\n");
+}
+
+// The choice for the longest pattern, of sets alone and with a letter at the end that decides.
+fn choice_of_m() {
+    let longest = [3u32; 64];
+    let mut text = [3u32; 65];
+    text[64] = 2;
+    let mut choice = [9u32; 65];
+    words(b"choice, m 64 at 0, and at 1, where the last letter decides\n");
+    say_choice(choose(2, &longest, &text, 0, &mut choice));
+    say_number(wide(choice[63]), b"\n");
+    say_choice(choose(2, &longest, &text, 1, &mut choice));
+    say_number(wide(choice[0]), b" ");
+    say_number(wide(choice[64]), b"\n");
+}
+
+// One start too far, and the farthest; a list too short.
+fn choice_refused() {
+    let longest = [3u32; 64];
+    let text = [3u32; 65];
+    let mut short = [9u32; 63];
+    words(b"choice, m 64 at 2 of 65, at the farthest start, with 63 lent\n");
+    say_choice(choose(2, &longest, &text, 2, &mut short));
+    say_choice(choose(2, &longest, &text, 18446744073709551615, &mut short));
+    say_choice(choose(2, &longest, &text, 0, &mut short));
+}
+
 fn sheet(s: &[u8]) {
     let mut out = [0u8; Report::MAX_BYTES];
     let len = printed::of_front(s, s.len(), &mut out);
@@ -267,6 +324,9 @@ fn main() {
     first_of_n();
     marks();
     cut_name();
+    bound_of_m();
+    choice_of_m();
+    choice_refused();
     sheets();
     marked_sheets();
     capacity();

@@ -1,4 +1,4 @@
--- The starred examples, over the alphabet aen: a is 1, e is 2, n is 4, [ae] 3, [an] 5, * 7, the entry mark 0. A lent list holds 9s.
+-- The starred examples, over the alphabet aen: a is 1, e is 2, n is 4, [ae] 3, [an] 5, * 7, the entry mark 0; and over abcd: a 1, b 2, c 4, [ab] 3, [ac] 5, [bc] 6, [abc] 7. A lent list holds 9s.
 use Prim.Native.Nat.{ℕ}
 use mathlib.Core.Bool.{true, false}
 use mathlib.Core.List.{List, [], _∷_, _++_}
@@ -9,8 +9,10 @@ use Rattle.inputs.specs.declared.refusal.Written.the-variants.{Wrote, Refused a
 use Rattle.engines.specs.declared.engine.Engine.{Engine}
 use Rattle.engines.specs.declared.engine.Engine.the-variants.{Brute, Kmp, Bm, Sunday, ShiftAnd, Hybrid}
 use Rattle.first.specs.declared.First.the-variants.{At, Nowhere, Refused as FirstRefused}
+use Rattle.bound.specs.declared.Bound.the-variants.{Total, Refused as BoundRefused}
+use Rattle.bound.specs.declared.choice.Choice.the-variants.{Made, Unlisted, Refused as ChoiceRefused}
 use Rattle.products.specs.declared.meeting.Meeting.the-variants.{Known}
-use Rattle.worked.specs.Asked.{Asked, askSearch, askFirst, askReport, askProducts, askLetters, askMeeting, Handed, giveSearch, giveFirst, giveList, giveMeeting}
+use Rattle.worked.specs.Asked.{Asked, askSearch, askFirst, askBound, askChoice, askReport, askProducts, askLetters, askMeeting, Handed, giveSearch, giveFirst, giveBound, giveChoice, giveList, giveMeeting}
 
 pub record Example : Type 0 where
   pub asked : Asked
@@ -33,6 +35,21 @@ findsFirst P T start scan = record { asked = askFirst 3 P T; due = giveFirst (At
 
 abbrev findsNone : List ℕ → List ℕ → ℕ → Example
 findsNone P T scan = record { asked = askFirst 3 P T; due = giveFirst (Nowhere scan) }
+
+-- the bound mode over abcd, with a list of four lent: the total, and the list afterwards
+abbrev binds : List ℕ → List ℕ → ℕ → List ℕ → Example
+binds P T total left = record { asked = askBound 4 P T blank; due = giveBound (Total total) left }
+
+-- the choice at a start, with a list of four lent: made, and the list afterwards; or not listed
+abbrev chooses : List ℕ → List ℕ → ℕ → List ℕ → Example
+chooses P T start left = record { asked = askChoice 4 P T start blank; due = giveChoice Made left }
+
+abbrev unlisted : List ℕ → List ℕ → ℕ → Example
+unlisted P T start = record { asked = askChoice 4 P T start blank; due = giveChoice Unlisted blank }
+
+-- the choice refused, with this list lent
+abbrev refusesChoice : List ℕ → List ℕ → ℕ → List ℕ → ℕ → Example
+refusesChoice P T start d number = record { asked = askChoice 4 P T start d; due = giveChoice (ChoiceRefused (record { number = number; place = 0 })) d }
 
 -- a value that is no product for k = 3
 abbrev noProduct : ℕ → Example
@@ -143,6 +160,27 @@ examples =
     ∷ findsNone an [] 0
     -- a wrong letter behind the hit
     ∷ record { asked = askFirst 3 an (1 ∷ 4 ∷ 8 ∷ []); due = giveFirst (FirstRefused (record { number = 5; place = 2 })) }
+    -- bound: [ab][abc][ab] over [abc]ab, and [ab][bc] over [ac][ab], are hits and not bound-listed
+    ∷ record { asked = askSearch Brute 4 (3 ∷ 7 ∷ 3 ∷ []) (7 ∷ 1 ∷ 2 ∷ []) blank; due = giveSearch (Found (record { total = 1; scan = 3; shift = 0; steps = 0 })) (0 ∷ 9 ∷ 9 ∷ 9 ∷ []) }
+    ∷ binds (3 ∷ 7 ∷ 3 ∷ []) (7 ∷ 1 ∷ 2 ∷ []) 0 blank
+    ∷ unlisted (3 ∷ 7 ∷ 3 ∷ []) (7 ∷ 1 ∷ 2 ∷ []) 0
+    ∷ record { asked = askSearch Brute 4 (3 ∷ 6 ∷ []) (5 ∷ 3 ∷ []) blank; due = giveSearch (Found (record { total = 1; scan = 2; shift = 0; steps = 0 })) (0 ∷ 9 ∷ 9 ∷ 9 ∷ []) }
+    ∷ binds (3 ∷ 6 ∷ []) (5 ∷ 3 ∷ []) 0 blank
+    ∷ unlisted (3 ∷ 6 ∷ []) (5 ∷ 3 ∷ []) 0
+    -- [abc][abc] over [ab][bc]: b b. [ab] over [ab]: a
+    ∷ chooses (7 ∷ 7 ∷ []) (3 ∷ 6 ∷ []) 0 (1 ∷ 1 ∷ 9 ∷ 9 ∷ [])
+    ∷ chooses (3 ∷ []) (3 ∷ []) 0 (0 ∷ 9 ∷ 9 ∷ 9 ∷ [])
+    -- [ab][ab] in aabb[ab][ab]; with a list of two; [ab] in |[ab]ac
+    ∷ binds (3 ∷ 3 ∷ []) (1 ∷ 1 ∷ 2 ∷ 2 ∷ 3 ∷ 3 ∷ []) 4 (0 ∷ 2 ∷ 3 ∷ 4 ∷ [])
+    ∷ record { asked = askBound 4 (3 ∷ 3 ∷ []) (1 ∷ 1 ∷ 2 ∷ 2 ∷ 3 ∷ 3 ∷ []) (9 ∷ 9 ∷ []); due = giveBound (Total 4) (0 ∷ 2 ∷ []) }
+    ∷ binds (3 ∷ []) (0 ∷ 3 ∷ 1 ∷ 4 ∷ []) 2 (1 ∷ 2 ∷ 9 ∷ 9 ∷ [])
+    -- a pattern longer than the text; a mark in the pattern
+    ∷ binds (3 ∷ 3 ∷ []) (3 ∷ []) 0 blank
+    ∷ record { asked = askBound 4 (0 ∷ []) (1 ∷ []) blank; due = giveBound (BoundRefused (record { number = 4; place = 0 })) blank }
+    -- past the last start, and a pattern longer than the text: 16; a list too short, at a start that is not listed: 8
+    ∷ refusesChoice (3 ∷ 3 ∷ []) (1 ∷ 1 ∷ 2 ∷ []) 2 blank 16
+    ∷ refusesChoice (3 ∷ 3 ∷ []) (3 ∷ []) 0 (9 ∷ []) 16
+    ∷ refusesChoice (3 ∷ 3 ∷ []) (1 ∷ 2 ∷ []) 0 (9 ∷ []) 8
     -- products: [ae] 6, n 5, * 30, and back
     ∷ record { asked = askProducts 3 (3 ∷ 4 ∷ 7 ∷ []) blank; due = giveList (Wrote 3) (6 ∷ 5 ∷ 30 ∷ 9 ∷ []) }
     ∷ record { asked = askLetters 3 (6 ∷ 5 ∷ 30 ∷ []) blank; due = giveList (Wrote 3) (3 ∷ 4 ∷ 7 ∷ 9 ∷ []) }
