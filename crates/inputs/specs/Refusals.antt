@@ -49,6 +49,4 @@ withRoom needed lent c = both c (refuse (ltb lent needed) 8 0 Passed)
 unfoldable pub verdictAt : ℕ → ℕ → ℕ → ℕ → List ℕ → List ℕ → ℕ → ℕ → Check
 verdictAt K M N k P T i lent =
     both (verdict K M N k P T)
-    (refuse (ltb (length T) (i + length P)) 16 0
-    (refuse (ltb lent (length P)) 8 0
-    Passed))
+    (refuse (ltb (length T) (i + length P)) 16 0 (refuse (ltb lent (length P)) 8 0 Passed))

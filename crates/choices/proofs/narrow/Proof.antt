@@ -1,4 +1,5 @@
 -- `choices::narrow` meets its contract: no pass loses a choice, and after one that changes nothing the sets decide. Assumes nothing.
+use native.Mathlib.Omega.{arith}
 use mathlib.Core.Path.{ap}
 use mathlib.Core.Bool.{not}
 use Prim.Native.Nat.{_+_}
@@ -37,7 +38,8 @@ loop-less : tie.Need-loop-less Inv-loop μ-loop
 loop-less c =
     let t = c .before .before .before .before in
     let l = t .before in
-    rw (t .loop-test .taken) (narrow-less _ _ _ _ _ _ _ (l .loop .inv) _ _ (c .pass .ensures .0) (c .pass .ensures .1))
+    rw (t .loop-test .taken)
+    (let h = narrow-less _ _ _ _ _ _ _ (l .loop .inv) _ _ (c .pass .ensures .0) (c .pass .ensures .1) in omega arith)
 
 loop-again : tie.Need-loop-again Inv-loop μ-loop
 loop-again c =
