@@ -6,7 +6,7 @@ I = $(DESTDIR)$(PREFIX)
 LIB = target/staticlib/libbreakwarp.a
 PROGRAM = target/bin/search
 SOURCES = crates.txt $(shell find crates -name '*.rt' -o -name '*.antt')
-CALLS = brute kmp bm sunday shiftand hybrid first to_products from_products products_meet read_sheet write_sheet report
+CALLS = brute kmp bm sunday shiftand hybrid first bound bound_choice to_products from_products products_meet read_sheet write_sheet report
 .PHONY: help search sheet program lib test bench beside fmt install uninstall clean
 .DELETE_ON_ERROR:
 
@@ -70,6 +70,7 @@ bench: $(LIB)
 	  for pad in 16 32 48; do echo; echo "moved by $$pad bytes, before alignment"; $(BENCH)/bench-$$pad means || exit 1; done && \
 	  $(BENCH)/bench-0 grow && echo && \
 	  $(BENCH)/bench-0 first && echo && \
+	  $(BENCH)/bench-0 bound && echo && \
 	  $(BENCH)/reader; } > $(BENCH)/running.txt
 	@mv $(BENCH)/running.txt $(BENCH)/run.txt
 	@cat $(BENCH)/run.txt

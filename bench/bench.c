@@ -1,8 +1,9 @@
-/* Times the library's six searches, and its first hit, beside the same in plain C.
+/* Times the library's six searches, and its first hit, beside the same in plain C, and its bound mode beside its brute.
  *   bench [PASSES]                     compare and time every workload
  *   bench means [PASSES]               the same, but print the mean and the worst of each engine alone
  *   bench grow [PASSES]                how cost grows with n and with m
  *   bench first [PASSES]               the first hit beside brute and C where there is none, and beside C where it is at start 0
+ *   bench bound [PASSES]               the bound list beside brute, and one start of the bound mode at m = 64 at its worst
  *   bench once SIDE ENGINE WORKLOAD    one search and nothing else, for counting instructions; SIDE is lib or c
  * Every answer is compared first; a difference ends the program with 1.
  */
@@ -20,6 +21,7 @@
 #define MARK 0xdeadbeefu
 typedef int64_t search_fn(uint32_t, const uint32_t *, size_t, const uint32_t *, size_t, uint32_t *, size_t, uint64_t *, size_t);
 typedef int64_t first_fn(uint32_t, const uint32_t *, size_t, const uint32_t *, size_t, uint64_t *, size_t);
+typedef int64_t bound_fn(uint32_t, const uint32_t *, size_t, const uint32_t *, size_t, uint32_t *, size_t);
 static const char *const NAME[6] = {"brute", "kmp", "bm", "sunday", "shiftand", "hybrid"};
 static search_fn *const LIB[6] = {breakwarp_brute, breakwarp_kmp, breakwarp_bm, breakwarp_sunday, breakwarp_shiftand, breakwarp_hybrid};
 static search_fn *const C[6] = {c_brute, c_kmp, c_bm, c_sunday, c_shiftand, c_hybrid};
@@ -176,10 +178,14 @@ static double now(void) {
   clock_gettime(CLOCK_MONOTONIC, &s);
   return (double)s.tv_sec * 1e9 + (double)s.tv_nsec;
 }
-struct cell { search_fn *f; first_fn *g; const struct work *w; size_t n; size_t loops; double best; }; /* f or g is called */
+struct cell { search_fn *f; first_fn *g; const struct work *w; size_t n; size_t loops; double best; bound_fn *b; }; /* f, g or b is called */
 static void all(const struct cell *c) {
   if (c->g) {
     for (size_t at = 0; at + c->n <= N; at += c->n) sink = c->g(c->w->k, c->w->p, c->w->m, c->w->t + at, c->n, found, 2);
+    return;
+  }
+  if (c->b) {
+    for (size_t at = 0; at + c->n <= N; at += c->n) sink = c->b(c->w->k, c->w->p, c->w->m, c->w->t + at, c->n, hits, c->n);
     return;
   }
   for (size_t at = 0; at + c->n <= N; at += c->n)
@@ -193,8 +199,9 @@ static struct cell ready(struct cell c) { /* as many loops as take a tenth of a 
   if (d < 1e5) c.loops = (size_t)(1e5 / (d > 1 ? d : 1)) + 1;
   return c;
 }
-static struct cell cell(search_fn *f, const struct work *w, size_t n) { return ready((struct cell){f, 0, w, n, 1, 1e99}); }
-static struct cell first_cell(first_fn *g, const struct work *w, size_t n) { return ready((struct cell){0, g, w, n, 1, 1e99}); }
+static struct cell cell(search_fn *f, const struct work *w, size_t n) { return ready((struct cell){f, 0, w, n, 1, 1e99, 0}); }
+static struct cell first_cell(first_fn *g, const struct work *w, size_t n) { return ready((struct cell){0, g, w, n, 1, 1e99, 0}); }
+static struct cell bound_cell(const struct work *w, size_t n) { return ready((struct cell){0, 0, w, n, 1, 1e99, breakwarp_bound}); }
 /* The sides take turns within a pass and the passes lie far apart, so that a busy stretch of the machine hits all alike. */
 static void measure(struct cell *c, size_t cells, size_t passes) {
   for (size_t pass = 0; pass < passes; pass++)
@@ -333,6 +340,247 @@ static int first(size_t passes) {
   return 0;
 }
 
+/* ---- the bound mode ---- */
+
+/* Whether the pattern is bound to what begins at t, and its choice: what two paired sets share is left to every set that is equal to one of
+ * them, again and again until nothing changes. */
+static int bound_here(const uint32_t *p, const uint32_t *t, size_t m, uint32_t *choice) {
+  uint32_t set[128], left[128];
+  for (size_t j = 0; j < m; j++) set[j] = left[j] = p[j], set[m + j] = left[m + j] = t[j];
+  for (int again = 1; again;) {
+    again = 0;
+    for (size_t j = 0; j < m; j++) {
+      uint32_t both = left[j] & left[m + j], a = set[j], b = set[m + j];
+      if (!both) return 0;
+      if (left[j] == both && left[m + j] == both) continue;
+      again = 1;
+      for (size_t x = 0; x < 2 * m; x++)
+        if (set[x] == a || set[x] == b) left[x] = both;
+    }
+  }
+  for (size_t j = 0; j < m; j++)
+    for (choice[j] = 0; !(left[j] >> choice[j] & 1); choice[j]++) continue;
+  return 1;
+}
+
+/* The stream cut into texts of n letters: total, list and what lies past it, beside those of brute's hits that the plain check leaves; at up to
+ * 64 of its starts the choice. Adds up hits and bound starts. */
+static void compare_bound(const struct work *w, size_t n, uint64_t sum[2]) {
+  uint32_t due[64], choice[64];
+  sum[0] = sum[1] = 0;
+  for (size_t at = 0; at + n <= N; at += n) {
+    const uint32_t *t = w->t + at;
+    for (size_t i = 0; i < COUNT(hits); i++) hits[i] = other[i] = MARK;
+    int64_t all = breakwarp_brute(w->k, w->p, w->m, t, n, other, n, counts, 3), listed = 0, agree = all >= 0;
+    for (int64_t i = 0; i < all; i++) {
+      uint32_t start = other[i];
+      other[i] = MARK;
+      if (!bound_here(w->p, t + start, w->m, due)) continue;
+      other[listed++] = start;
+      if (listed > 64) continue;
+      agree &= breakwarp_bound_choice(w->k, w->p, w->m, t, n, start, choice, w->m) == 1 && !memcmp(choice, due, w->m * sizeof *due);
+    }
+    int64_t a = breakwarp_bound(w->k, w->p, w->m, t, n, hits, n);
+    if (!agree || a != listed || memcmp(hits, other, sizeof hits)) {
+      printf("bound differs on %s, n = %zu, text at %zu: total %lld, plain %lld\n", w->name, n, at, (long long)a, (long long)listed);
+      exit(1);
+    }
+    sum[0] += (uint64_t)all;
+    sum[1] += (uint64_t)listed;
+  }
+}
+
+/* One start at m = 64, which is all of its text; the row of the table that it belongs to; microseconds of both calls, alone and in turn. */
+struct start { uint32_t k, p[64], t[64]; int row; double one[2], turn[2]; };
+#define STARTS 256
+#define TURNS 401
+static struct start starts[STARTS];
+static size_t made;
+
+/* The link of a chain of 64 that stands at each position. */
+#define ORDERS 7
+static const char *const ORDER[ORDERS] = {"a chain from left to right", "a chain from right to left", "a chain from the middle outwards",
+  "a chain from both ends inwards", "a chain, even links first, odd ones back", "a chain, joining twos, fours, eights", "a chain in any order"};
+static void arrange(int order, size_t link[64]) {
+  size_t at = 0;
+  for (size_t x = 0; x < 64; x++) {
+    size_t half = x / 2, by[ORDERS] = {x, 63 - x, x % 2 ? 32 + half : 31 - half, x % 2 ? 63 - half : half, x < 32 ? 2 * x : 127 - 2 * x, x, x};
+    link[x] = by[order];
+  }
+  for (size_t step = 2; order == 5 && step <= 128; step *= 2)
+    for (size_t j = step / 2 - 1; j < 64; j += step) link[at++] = j;
+  for (size_t x = 63; order == 6 && x; x--) {
+    size_t y = below((uint32_t)x + 1), held = link[x];
+    link[x] = link[y];
+    link[y] = held;
+  }
+}
+
+/* Chains of so many links, each with sets of its own, 64 links in all. The sets of a chain share base letters 30 and 31 and have others besides,
+ * few or many. `ends` is 0 without a single letter, 1 and 2 with one at the first or the last end, 3 with two that do not agree. `over` is which
+ * of a pair is the pattern's: the first, the second, or both in turn. */
+static void chained(int row, int order, size_t links, int ends, int over, uint32_t wide) {
+  struct start *s = &starts[made++];
+  uint32_t a[64], b[64];
+  size_t link[64];
+  for (uint32_t x = 0; x < 64; x++) {
+    size_t in = x % links;
+    a[x] = in ? b[x - 1] : ends & 1 ? 1u << 31 : 3u << 30 | ((uint32_t)next() & wide) | 2 * x;
+    b[x] = 3u << 30 | ((uint32_t)next() & wide) | (2 * x + 1);
+    if ((in == links - 1 || x == 63) && ends & 2) b[x] = 1u << (ends == 3 ? 30 : 31);
+  }
+  arrange(order, link);
+  *s = (struct start){.k = 32, .row = row};
+  for (size_t x = 0; x < 64; x++) {
+    size_t l = link[x];
+    int second = over == 2 ? (int)(l % 2) : over;
+    s->p[x] = second ? b[l] : a[l];
+    s->t[x] = second ? a[l] : b[l];
+  }
+}
+
+/* Starts without chains, in four variants of each. */
+#define OTHERS 6
+static const char *const OTHER[OTHERS] = {"everything single", "all sets equal", "128 sets, none tied", "one set over 64 others",
+  "two sets over 31 others each, tied last", "twelve wide sets in pairs by chance"};
+static void unchained(int row, int kind, int variant) {
+  struct start *s = &starts[made++];
+  uint32_t few[12];
+  for (size_t j = 0; j < 12; j++) few[j] = 1u << 31 | (uint32_t)next();
+  *s = (struct start){.k = 32, .row = row};
+  for (uint32_t j = 0; j < 64; j++) {
+    uint32_t a = 3u << 30 | 2 * j, b = 3u << 30 | (2 * j + 1);
+    if (kind == 0) a = b = 1u << (variant % 2 ? j % 26 : 0);
+    if (kind == 1) a = b = variant % 2 ? ~0u : 3;
+    if (kind == 3) b = 3u << 30 | 1;
+    if (kind == 4) b = 3u << 30 | (j % 2 ? 1 : 3);
+    if (kind == 4 && j == 62) a = 1u << (variant % 2 ? 31 : 30);
+    if (kind == 4 && j == 63) a = 3u << 30 | 3;
+    if (kind == 5) a = few[below(12)], b = few[below(12)];
+    s->p[j] = variant / 2 ? b : a;
+    s->t[j] = variant / 2 ? a : b;
+  }
+}
+
+/* What each row of the table is of: chains of 64 links by their order, chains of two and of three, and those without chains. */
+#define ROWS (ORDERS + 2 + OTHERS)
+static const char *row_name(int row) {
+  return row < ORDERS ? ORDER[row] : row == ORDERS ? "chains of two links" : row == ORDERS + 1 ? "chains of three links" : OTHER[row - ORDERS - 2];
+}
+static void make_starts(void) {
+  seed = 110;
+  for (int v = 0; v < 24; v++)
+    for (int order = 0; order < ORDERS; order++) chained(order, order, 64, v % 4, v / 4 % 3, v / 12 ? 0x3fffff00u : 0);
+  for (int v = 0; v < 24; v++)
+    for (int row = ORDERS; row < ORDERS + 2; row++) chained(row, v / 12 ? 6 : 0, (size_t)(row - ORDERS + 2), v % 4, v / 4 % 3, 0x3fffff00u);
+  for (int v = 0; v < 4; v++)
+    for (int kind = 0; kind < OTHERS; kind++) unchained(ORDERS + 2 + kind, kind, v);
+}
+
+static int64_t call(const struct start *s, size_t which) {
+  return which ? breakwarp_bound_choice(s->k, s->p, 64, s->t, 64, 0, other, 64) : breakwarp_bound(s->k, s->p, 64, s->t, 64, hits, 1);
+}
+static int rising(const void *a, const void *b) {
+  double x = *(const double *)a, y = *(const double *)b;
+  return (x > y) - (x < y);
+}
+/* Alone: sixteen calls in a row, the least mean of all passes. In turn: one call of every start after the other, so that no branch is foretold from
+ * the call before; the median. */
+static void time_starts(size_t passes) {
+  static double turn[2 * STARTS][TURNS];
+  for (size_t x = 0; x < 2 * made; x++) starts[x / 2].one[x % 2] = 1e99;
+  for (size_t pass = 0; pass < passes; pass++)
+    for (size_t x = 0; x < 2 * made; x++) {
+      double a = now();
+      for (int q = 0; q < 16; q++) sink = call(&starts[x / 2], x % 2);
+      double d = (now() - a) / 16e3, *best = &starts[x / 2].one[x % 2];
+      if (d < *best) *best = d;
+    }
+  for (size_t q = 0; q < TURNS; q++)
+    for (size_t y = 0; y < 2 * made; y++) {
+      size_t x = y * 37 % (2 * made); /* not beside those that are alike; 37 has no factor in common with their number */
+      double a = now();
+      sink = call(&starts[x / 2], x % 2);
+      turn[x][q] = (now() - a) / 1e3;
+    }
+  for (size_t x = 0; x < 2 * made; x++) {
+    qsort(turn[x], TURNS, sizeof *turn[x], rising);
+    starts[x / 2].turn[x % 2] = turn[x][TURNS / 2];
+  }
+}
+
+static void compare_start(const struct start *s) {
+  uint32_t due[64];
+  int listed = bound_here(s->p, s->t, 64, due);
+  for (size_t j = 0; j < 64; j++) other[j] = MARK;
+  int agree = call(s, 0) == listed && call(s, 1) == listed && (listed ? !memcmp(other, due, sizeof due) : other[0] == MARK);
+  if (agree) return;
+  printf("bound differs on one start, %s: plain %d\n", row_name(s->row), listed);
+  exit(1);
+}
+
+/* The worst of all starts of a row, call by call. */
+static void worst_starts(size_t passes) {
+  double most = 0;
+  int where = 0;
+  make_starts();
+  for (size_t x = 0; x < made; x++) compare_start(&starts[x]);
+  printf("\ncompared: answer and choice agree with a plain check on all %zu starts of one pattern of 64 letters\n\n", made);
+  time_starts(passes);
+  printf("| one start, m = 64, the worst of | starts | listed | bound us | choice us | bound us in turn | choice us in turn | most us | of 20 |\n"
+         "|---|---|---|---|---|---|---|---|---|\n");
+  for (int row = 0; row < ROWS; row++) {
+    double at[4] = {0}, top = 0;
+    size_t of = 0, listed = 0;
+    for (size_t x = 0; x < made; x++) {
+      const struct start *s = &starts[x];
+      if (s->row != row) continue;
+      of++;
+      listed += call(s, 0) == 1;
+      for (size_t y = 0; y < 4; y++) {
+        double d = y < 2 ? s->one[y] : s->turn[y - 2];
+        if (d > at[y]) at[y] = d;
+        if (d > top) top = d;
+      }
+    }
+    if (top > most) most = top, where = row;
+    printf("| %s | %zu | %zu | %.2f | %.2f | %.2f | %.2f | %.2f | %.2f |\n", row_name(row), of, listed, at[0], at[1], at[2], at[3], top, top / 20);
+  }
+  printf("\nthe worst start of all: %.2f us, %s\n", most, row_name(where));
+}
+
+/* The list beside brute, which finds the same hits and asks nothing more of them. */
+static int bound(size_t passes) {
+  static struct cell c[2 * WORKS * 2];
+  static uint64_t sum[2 * WORKS][2];
+  size_t x = 0;
+  for (int l = 0; l < 2; l++)
+    for (int w = 0; w < WORKS; w++) {
+      compare_bound(&works[w], LENGTHS[l], sum[l * WORKS + w]);
+      c[x++] = bound_cell(&works[w], LENGTHS[l]);
+      c[x++] = cell(breakwarp_brute, &works[w], LENGTHS[l]);
+    }
+  printf("compared: total, list, rest of the list and choices agree with a plain check of brute's hits on all %d bound lists\n\n", 2 * WORKS);
+  measure(c, x, passes);
+  printf("| workload, bound | n | m | hits | bound starts | bound ns a letter | brute ns a letter | ratio to brute | ns more a hit |\n"
+         "|---|---|---|---|---|---|---|---|---|\n");
+  double worst = 0;
+  for (int w = 0; w < WORKS; w++)
+    for (int l = 0; l < 2; l++) {
+      const struct cell *y = &c[(l * WORKS + w) * 2];
+      const uint64_t *s = sum[l * WORKS + w];
+      double ratio = y[0].best / y[1].best;
+      char more[16] = "-"; /* of few hits it would be noise */
+      if (s[0] > 1000) snprintf(more, sizeof more, "%.1f", (y[0].best - y[1].best) * N / (double)s[0]);
+      if (!strncmp(works[w].name, "names", 5) && ratio > worst) worst = ratio;
+      printf("| %s | %zu | %zu | %llu | %llu | %.3f | %.3f | %.2f | %s |\n", works[w].name, LENGTHS[l], works[w].m, (unsigned long long)s[0],
+             (unsigned long long)s[1], y[0].best, y[1].best, ratio, more);
+    }
+  printf("\nbound to brute on the names: worst %.2f\n", worst);
+  worst_starts(passes / 3 + 1);
+  return 0;
+}
+
 int main(int argc, char **argv) {
   cpu_set_t one;
   CPU_ZERO(&one);
@@ -350,6 +598,7 @@ int main(int argc, char **argv) {
   }
   if (argc > 1 && !strcmp(argv[1], "grow")) return grow(argc > 2 ? (size_t)atol(argv[2]) : 100);
   if (argc > 1 && !strcmp(argv[1], "first")) return first(argc > 2 ? (size_t)atol(argv[2]) : 150);
+  if (argc > 1 && !strcmp(argv[1], "bound")) return bound(argc > 2 ? (size_t)atol(argv[2]) : 150);
   if (argc > 1 && !strcmp(argv[1], "means")) return table(argc > 2 ? (size_t)atol(argv[2]) : 60, 0);
   return table(argc > 1 ? (size_t)atol(argv[1]) : 150, 1);
 }

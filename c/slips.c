@@ -138,6 +138,104 @@ int64_t __wrap_breakwarp_first(uint32_t k, const uint32_t *pattern, size_t m, co
     return slipped("first", answer, out, pattern, m * sizeof *pattern);
 }
 
+/* One pass over the pairs from left to right: what a pair shares is left to all that is equal to one of its two sets.
+ * Whether something is left to every pair when its turn comes, which is too weak. */
+static int one_pass(const uint32_t *p, size_t m, const uint32_t *t)
+{
+    uint32_t left[BREAKWARP_MAX_M], under[BREAKWARP_MAX_M];
+    memcpy(left, p, m * sizeof *p);
+    memcpy(under, t, m * sizeof *t);
+    for (size_t j = 0; j < m; j++) {
+        uint32_t both = left[j] & under[j];
+        if (both == 0)
+            return 0;
+        for (size_t x = 0; x < m; x++) {
+            if (p[x] == p[j] || p[x] == t[j])
+                left[x] = both;
+            if (t[x] == p[j] || t[x] == t[j])
+                under[x] = both;
+        }
+    }
+    return 1;
+}
+
+/* The hits of brute, all of them with `hits`, and with `one-pass` those that one pass leaves. */
+static int64_t list_of_brute(uint32_t k, const uint32_t *p, size_t m, const uint32_t *t, size_t n, uint32_t *hits,
+                             size_t cap)
+{
+    static uint32_t all[BREAKWARP_MAX_N];
+    uint64_t work[3];
+    int64_t found = __real_breakwarp_brute(k, p, m, t, n, all, BREAKWARP_MAX_N, work, 3), total = 0;
+    for (int64_t hit = 0; hit < found; hit++)
+        if (asked("bound", "hits") || one_pass(p, m, t + all[hit])) {
+            if ((size_t)total < cap)
+                hits[total] = all[hit];
+            total++;
+        }
+    return found < 0 ? found : total;
+}
+
+/* The text slips as if it were a call of its own, `bound-text`. */
+int64_t __real_breakwarp_bound(uint32_t, const uint32_t *, size_t, const uint32_t *, size_t, uint32_t *, size_t);
+int64_t __wrap_breakwarp_bound(uint32_t, const uint32_t *, size_t, const uint32_t *, size_t, uint32_t *, size_t);
+int64_t __wrap_breakwarp_bound(uint32_t k, const uint32_t *pattern, size_t m, const uint32_t *text, size_t n,
+                               uint32_t *hits, size_t cap)
+{
+    const uint32_t *p = swapped("bound", "mark-pattern", pattern, m, 0, 1);
+    const uint32_t *t = swapped("bound", "mark", text, n, 0, 1);
+    int brute = asked("bound", "hits") || asked("bound", "one-pass");
+    int64_t answer = brute ? list_of_brute(k, p, m, t, n, hits, cap) : __real_breakwarp_bound(k, p, m, t, n, hits, cap);
+    struct output nothing = {NULL, 1, 0, 0};
+    struct output list = {hits, sizeof *hits, cap, answer < 0 ? 0 : least((size_t)answer, cap)};
+    if (asked("bound", "cut") && answer > (int64_t)cap)
+        answer = (int64_t)cap;
+    slipped("bound-text", answer, nothing, text, n * sizeof *text);
+    return slipped("bound", answer, list, pattern, m * sizeof *pattern);
+}
+
+/* The start that is handed on, with the slip that is asked for: one further; cut to 32 bits; or, where its sum with m
+ * wraps and is small again, a right one. */
+static size_t swapped_start(size_t start, size_t m)
+{
+    if (asked("bound_choice", "start"))
+        return start + (start < BREAKWARP_MAX_N);
+    if (asked("bound_choice", "start-32"))
+        return (uint32_t)start;
+    return asked("bound_choice", "start-wraps") && start + m < m ? 0 : start;
+}
+
+/* The text slips as if it were a call of its own, `bound_choice-text`; so does what is written at a start that is not
+ * listed, `bound_choice-none`, and the first number of those at one that is, `bound_choice-first`. */
+int64_t __real_breakwarp_bound_choice(uint32_t, const uint32_t *, size_t, const uint32_t *, size_t, size_t, uint32_t *,
+                                      size_t);
+int64_t __wrap_breakwarp_bound_choice(uint32_t, const uint32_t *, size_t, const uint32_t *, size_t, size_t, uint32_t *,
+                                      size_t);
+int64_t __wrap_breakwarp_bound_choice(uint32_t k, const uint32_t *pattern, size_t m, const uint32_t *text, size_t n,
+                                      size_t start, uint32_t *choice, size_t cap)
+{
+    uint32_t ample[BREAKWARP_MAX_M];
+    const uint32_t *p = swapped("bound_choice", "mark-pattern", pattern, m, 0, 1);
+    const uint32_t *t = swapped("bound_choice", "mark", text, n, 0, 1);
+    size_t handed = swapped_start(start, m);
+    int64_t answer = __real_breakwarp_bound_choice(k, p, m, t, n, handed, choice, cap);
+    if (asked("bound_choice", "one-pass") && answer == 0 && one_pass(p, m, t + handed))
+        answer = 1;
+    /* Too little room is passed over where the start is not listed, or told where the start is to be refused. */
+    if (asked("bound_choice", "room-listed") && answer == -BREAKWARP_REFUSED_ROOM &&
+        __real_breakwarp_bound_choice(k, p, m, t, n, handed, ample, BREAKWARP_MAX_M) == 0)
+        answer = 0;
+    if (asked("bound_choice", "room-first") && answer == -BREAKWARP_REFUSED_START && cap < m)
+        answer = -BREAKWARP_REFUSED_ROOM;
+    struct output nothing = {NULL, 1, 0, 0};
+    struct output first = {choice, sizeof *choice, cap, answer == 1 ? 1 : 0};
+    struct output none = {answer == 0 ? choice : NULL, sizeof *choice, cap, 0};
+    struct output out = {answer == 0 ? NULL : choice, sizeof *choice, cap, answer == 1 ? m : 0};
+    slipped("bound_choice-text", answer, nothing, text, n * sizeof *text);
+    slipped("bound_choice-first", answer, first, NULL, 0);
+    slipped("bound_choice-none", answer, none, NULL, 0);
+    return slipped("bound_choice", answer, out, pattern, m * sizeof *pattern);
+}
+
 /* `mark` is what stands for the mark, the letter 0 or the product 1, and `other` what it is taken for. */
 #define CONVERSION(name, mark, other)                                                                                  \
     int64_t __real_breakwarp_##name(uint32_t, const uint32_t *, size_t, uint32_t *, size_t);                           \

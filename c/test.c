@@ -21,7 +21,7 @@ _Static_assert(BREAKWARP_REFUSED_PRODUCT_K == 6 && BREAKWARP_REFUSED_PRODUCT == 
 _Static_assert(BREAKWARP_REFUSED_ROOM == 8 && BREAKWARP_REFUSED_SHEET == 10, "refusals 8 and 10");
 _Static_assert(BREAKWARP_REFUSED_COUNT == 11 && BREAKWARP_REFUSED_ALPHABET == 12, "refusals 11 and 12");
 _Static_assert(BREAKWARP_REFUSED_NOTATION == 13 && BREAKWARP_REFUSED_DIFFERS == 14, "refusals 13 and 14");
-_Static_assert(BREAKWARP_REFUSED_AFTER == 15, "refusal 15");
+_Static_assert(BREAKWARP_REFUSED_AFTER == 15 && BREAKWARP_REFUSED_START == 16, "refusals 15 and 16");
 _Static_assert(BREAKWARP_MAX_SHEET_TEXT == 8192 && BREAKWARP_MAX_REPORT == 40000, "what is long enough");
 
 /* What a refused call returns, written a second time. */
@@ -554,6 +554,434 @@ static void firsts_beside_brute(void)
     same("pairs with a hit and without, a quarter at least", with >= PAIRS / 4 && with <= PAIRS - PAIRS / 4, 1);
 }
 
+/* ---- the bound mode ---- */
+
+static const uint32_t at0[] = {0}, at1[] = {1};
+
+/* One call for the list. `hits` has `answer` starts if the answer is not negative. */
+static void try_bound(uint32_t k, const uint32_t *p, size_t m, const uint32_t *t, size_t n, size_t cap, int64_t answer,
+                      const uint32_t *hits)
+{
+    snprintf(about, sizeof about, "bound, k %u, m %zu, n %zu, list of %zu", (unsigned)k, m, n, cap);
+    uint32_t *pattern = copy(p, m * sizeof *p);
+    uint32_t *text = copy(t, n * sizeof *t);
+    struct lent list = lend(cap * sizeof *hits);
+    errno = 77;
+    same("answer", breakwarp_bound(k, pattern, m, text, n, slice(list), cap), answer);
+    same("errno", errno, 77);
+    size_t written = answer < 0 ? 0 : (size_t)answer < cap ? (size_t)answer : cap;
+    holds("hits", list, hits, written * sizeof *hits);
+    unchanged("pattern", pattern, p, m * sizeof *p);
+    unchanged("text", text, t, n * sizeof *t);
+}
+
+/* One call at one start. m numbers are written if the answer is 1, and nothing if it is not. */
+static void try_choice(uint32_t k, const uint32_t *p, size_t m, const uint32_t *t, size_t n, size_t start, size_t cap,
+                       int64_t answer, const uint32_t *choice)
+{
+    snprintf(about, sizeof about, "bound_choice, k %u, m %zu, n %zu, start %zu, room for %zu", (unsigned)k, m, n, start,
+             cap);
+    uint32_t *pattern = copy(p, m * sizeof *p);
+    uint32_t *text = copy(t, n * sizeof *t);
+    struct lent numbers = lend(cap * sizeof *choice);
+    errno = 77;
+    same("answer", breakwarp_bound_choice(k, pattern, m, text, n, start, slice(numbers), cap), answer);
+    same("errno", errno, 77);
+    holds("choice", numbers, choice, answer == 1 ? m * sizeof *choice : 0);
+    unchanged("pattern", pattern, p, m * sizeof *p);
+    unchanged("text", text, t, n * sizeof *t);
+}
+
+/* With every room from none to more than enough: too little is refused whether the start is listed or not, and after all
+ * that is refused besides. */
+static void try_choice_rooms(uint32_t k, const uint32_t *p, size_t m, const uint32_t *t, size_t n, size_t start,
+                             int64_t answer, const uint32_t *choice)
+{
+    for (size_t cap = 0; cap <= m + 2; cap++)
+        try_choice(k, p, m, t, n, start, cap, answer >= 0 && cap < m ? -BREAKWARP_REFUSED_ROOM : answer, choice);
+}
+
+/* Over abcd: a is 1, b 2, c 4, d 8. */
+static void worked_bounds(void)
+{
+    static const struct {
+        uint32_t p[3];
+        size_t m;
+        uint32_t t[6];
+        size_t n;
+        int64_t total;
+        uint32_t starts[4];
+    } rows[] = {
+        /* [ab][abc][ab] over [abc]ab, which narrowing from left to right would pass, and [ab][bc] over [ac][ab]. */
+        {{3, 7, 3}, 3, {7, 1, 2}, 3, 0, {0}},
+        {{3, 6}, 2, {5, 3}, 2, 0, {0}},
+        {{7, 7}, 2, {3, 6}, 2, 1, {0}},
+        {{3}, 1, {3}, 1, 1, {0}},
+        /* [ab][ab] in aabb[ab][ab]: not at 1, though it is a hit. */
+        {{3, 3}, 2, {1, 1, 2, 2, 3, 3}, 6, 4, {0, 2, 3, 4}},
+        {{3}, 1, {MARK, 3, 1, 4}, 4, 2, {1, 2}},
+        /* A choice holds for one hit, and the next one has its own. */
+        {{3}, 1, {1, 2, 1, 2}, 4, 4, {0, 1, 2, 3}},
+        /* One set in the pattern and under it. */
+        {{1, 3}, 2, {3, 2}, 2, 0, {0}},
+        {{15}, 1, {MARK, MARK}, 2, 0, {0}},
+        {{15, 15}, 2, {15, MARK, 15, 15}, 4, 1, {2}},
+        {{1, 2}, 2, {1}, 1, 0, {0}},
+        {{1, 2}, 2, {0}, 0, 0, {0}},
+        {{1, 2}, 2, {2, 1, 2, 1, 2}, 5, 2, {1, 3}},
+    };
+    for (size_t r = 0; r < LENGTH(rows); r++)
+        for (size_t cap = 0; cap <= (size_t)rows[r].total + 2; cap++)
+            try_bound(4, rows[r].p, rows[r].m, rows[r].t, rows[r].n, cap, rows[r].total, rows[r].starts);
+}
+
+static void worked_choices(void)
+{
+    static const struct {
+        uint32_t p[3];
+        size_t m;
+        uint32_t t[6];
+        size_t n, start;
+        int64_t answer;
+        uint32_t choice[3];
+    } rows[] = {
+        {{3, 7, 3}, 3, {7, 1, 2}, 3, 0, 0, {0}},
+        {{3, 6}, 2, {5, 3}, 2, 0, 0, {0}},
+        {{7, 7}, 2, {3, 6}, 2, 0, 1, {1, 1}},
+        {{3}, 1, {3}, 1, 0, 1, {0}},
+        {{3, 3}, 2, {1, 1, 2, 2, 3, 3}, 6, 0, 1, {0, 0}},
+        {{3, 3}, 2, {1, 1, 2, 2, 3, 3}, 6, 1, 0, {0}},
+        {{3, 3}, 2, {1, 1, 2, 2, 3, 3}, 6, 2, 1, {1, 1}},
+        {{3, 3}, 2, {1, 1, 2, 2, 3, 3}, 6, 3, 1, {1, 1}},
+        {{3, 3}, 2, {1, 1, 2, 2, 3, 3}, 6, 4, 1, {0, 0}},
+        {{3, 3}, 2, {1, 1, 2, 2, 3, 3}, 6, 5, -BREAKWARP_REFUSED_START, {0}},
+        {{3}, 1, {MARK, 3, 1, 4}, 4, 0, 0, {0}},
+        {{3}, 1, {MARK, 3, 1, 4}, 4, 1, 1, {0}},
+        {{3}, 1, {MARK, 3, 1, 4}, 4, 3, 0, {0}},
+        {{3}, 1, {MARK, 3, 1, 4}, 4, 4, -BREAKWARP_REFUSED_START, {0}},
+        /* *[cd] over [bcd]d; then [ad][bd][cd] over [bd][cd]d, where d decides at the end. */
+        {{15, 12}, 2, {14, 8}, 2, 0, 1, {1, 3}},
+        {{9, 10, 12}, 3, {10, 12, 8}, 3, 0, 1, {3, 3, 3}},
+        {{2}, 1, {15}, 1, 0, 1, {1}},
+        {{8, 4, 2}, 3, {1, 8, 4, 2}, 4, 1, 1, {3, 2, 1}},
+        {{8, 4, 2}, 3, {1, 8, 4, 2}, 4, 0, 0, {0}},
+        {{1, 2}, 2, {1}, 1, 0, -BREAKWARP_REFUSED_START, {0}},
+        {{1, 2}, 2, {0}, 0, 0, -BREAKWARP_REFUSED_START, {0}},
+    };
+    for (size_t r = 0; r < LENGTH(rows); r++)
+        try_choice_rooms(4, rows[r].p, rows[r].m, rows[r].t, rows[r].n, rows[r].start, rows[r].answer, rows[r].choice);
+}
+
+/* 1 to 5 of both calls, in their order and with their places; at one start 16 and 8 come after them, and the whole text
+ * is checked, not only what stands under the pattern. */
+static void bound_refusals(void)
+{
+    static const uint32_t bad[] = {1, 2, 8}, empty[] = {1, 0}, twice[] = {1, 8, 0}, good[] = {1, 2, 4};
+    static const uint32_t behind[] = {MARK, MARK, 8, MARK, 16};
+    static const struct {
+        uint32_t k;
+        const uint32_t *p;
+        size_t m;
+        const uint32_t *t;
+        size_t n;
+        int refusal, place;
+    } rows[] = {
+        {0, good, 1, good, 3, BREAKWARP_REFUSED_K, 0},
+        {33, good, 1, good, 3, BREAKWARP_REFUSED_K, 0},
+        {UINT32_MAX, NULL, 0, bad, 3, BREAKWARP_REFUSED_K, 0},
+        {3, NULL, 0, good, 3, BREAKWARP_REFUSED_M, 0},
+        {3, NULL, 0, bad, 3, BREAKWARP_REFUSED_M, 0},
+        {3, bad, 3, good, 3, BREAKWARP_REFUSED_PATTERN, 2},
+        {3, empty, 2, good, 3, BREAKWARP_REFUSED_PATTERN, 1},
+        {3, empty, 2, bad, 3, BREAKWARP_REFUSED_PATTERN, 1},
+        {3, empty + 1, 1, behind, 5, BREAKWARP_REFUSED_PATTERN, 0},
+        {1, good + 1, 1, good, 1, BREAKWARP_REFUSED_PATTERN, 0},
+        {3, twice, 3, good, 3, BREAKWARP_REFUSED_PATTERN, 1},
+        {3, good, 1, bad, 3, BREAKWARP_REFUSED_TEXT, 2},
+        {3, good, 2, bad, 3, BREAKWARP_REFUSED_TEXT, 2},
+        {3, good, 1, twice, 3, BREAKWARP_REFUSED_TEXT, 1},
+        {3, good, 1, behind, 5, BREAKWARP_REFUSED_TEXT, 2},
+        {2, good, 1, good, 3, BREAKWARP_REFUSED_TEXT, 2},
+    };
+    static const size_t starts[] = {0, 1, 3, 65536, SIZE_MAX};
+    for (size_t r = 0; r < LENGTH(rows); r++) {
+        int64_t answer = AT(rows[r].refusal, rows[r].place);
+        for (size_t cap = 0; cap <= 3; cap++)
+            try_bound(rows[r].k, rows[r].p, rows[r].m, rows[r].t, rows[r].n, cap, answer, NULL);
+        for (size_t s = 0; s < LENGTH(starts); s++)
+            try_choice_rooms(rows[r].k, rows[r].p, rows[r].m, rows[r].t, rows[r].n, starts[s], answer, NULL);
+    }
+}
+
+/* Starts from the last one on, to the largest there are: with some of these the sum with m is small again if it wraps,
+ * and some have a right start in their lower bits. */
+static void far_starts(void)
+{
+    static const uint32_t p[] = {3, 3, 2}, t[] = {2, 1, 3, 2, 2}, first[] = {0, 0, 1}, due[] = {1, 1, 1};
+    static const size_t starts[] = {
+        3, 4, 5, 6, 65535, 65536, UINT32_MAX, (size_t)UINT32_MAX + 1, (size_t)UINT32_MAX + 3, SIZE_MAX / 2,
+        SIZE_MAX / 2 + 3, SIZE_MAX - 3, SIZE_MAX - 2, SIZE_MAX - 1, SIZE_MAX,
+    };
+    try_choice_rooms(2, p, 3, t, 5, 0, 0, NULL);
+    try_choice_rooms(2, p, 3, t, 5, 1, 1, first);
+    try_choice_rooms(2, p, 3, t, 5, 2, 1, due);
+    for (size_t s = 0; s < LENGTH(starts); s++) {
+        try_choice_rooms(2, p, 3, t, 5, starts[s], -BREAKWARP_REFUSED_START, NULL);
+        /* A pattern longer than the text, and no text: no start is right, not 0 either. */
+        try_choice_rooms(2, p, 3, t, 2, starts[s], -BREAKWARP_REFUSED_START, NULL);
+        try_choice_rooms(2, p, 3, NULL, 0, starts[s], -BREAKWARP_REFUSED_START, NULL);
+    }
+    try_choice_rooms(2, p, 3, t, 2, 0, -BREAKWARP_REFUSED_START, NULL);
+    try_choice_rooms(2, p, 3, NULL, 0, 0, -BREAKWARP_REFUSED_START, NULL);
+    try_bound(2, p, 3, t, 2, 2, 0, NULL);
+    try_bound(2, p, 3, NULL, 0, 2, 0, NULL);
+}
+
+/* The position of link j of 64 in one of four orders: from left to right, back, from the middle outwards, and the even
+ * ones first and then the odd ones backwards, so that no pass in one direction goes further than a link. */
+static size_t position(size_t order, size_t j)
+{
+    switch (order) {
+    case 0:
+        return j;
+    case 1:
+        return 63 - j;
+    case 2:
+        return j < 32 ? 2 * (31 - j) : 2 * (j - 32) + 1;
+    default:
+        return j % 2 == 0 ? j / 2 : 63 - j / 2;
+    }
+}
+
+/* A chain of 64 links over 65 different sets, which share the base letters 30 and 31; `first` and `last` are the base
+ * letters that stand at its ends, or 0 where a set does. Text letters 1 to 64 are under the pattern, between marks. */
+static void chain(size_t order, size_t over, uint32_t first, uint32_t last, uint32_t pattern[64], uint32_t text[66])
+{
+    uint32_t sets[65];
+    for (size_t j = 0; j < 65; j++)
+        sets[j] = UINT32_C(3) << 30 | (uint32_t)(j + 1);
+    if (first != 0)
+        sets[0] = UINT32_C(1) << first;
+    if (last != 0)
+        sets[64] = UINT32_C(1) << last;
+    text[0] = text[65] = MARK;
+    for (size_t j = 0; j < 64; j++) {
+        /* Which of the two is the pattern's: the first, the second, or both in turn. */
+        size_t x = position(order, j), second = over == 2 ? j % 2 : over;
+        pattern[x] = sets[j + second];
+        text[1 + x] = sets[j + 1 - second];
+    }
+}
+
+/* Without single letters all sets stand for 30; one at either end decides for all; two that do not agree leave a hit
+ * that is not listed. */
+static void chained_bounds(void)
+{
+    static const uint32_t ends[][2] = {{0, 0}, {0, 31}, {31, 0}, {31, 31}, {30, 31}, {31, 30}, {30, 0}, {0, 30}};
+    for (size_t row = 0; row < 4 * 3 * LENGTH(ends); row++) {
+        uint32_t pattern[64], text[66], due[64], first = ends[row / 12][0], last = ends[row / 12][1];
+        chain(row % 4, row / 4 % 3, first, last, pattern, text);
+        for (size_t j = 0; j < 64; j++)
+            due[j] = first != 0 ? first : last != 0 ? last : 30;
+        int64_t listed = first == 0 || last == 0 || first == last;
+        try_search(0, 32, pattern, 64, text, 66, 2, 3, 1, at1, NULL);
+        try_bound(32, pattern, 64, text + 1, 64, 2, listed, at0);
+        try_bound(32, pattern, 64, text, 66, 2, listed, at1);
+        try_choice(32, pattern, 64, text + 1, 64, 0, 64, listed, due);
+        try_choice(32, pattern, 64, text, 66, 1, 66, listed, due);
+        try_choice(32, pattern, 64, text, 66, 0, 64, 0, NULL);
+        try_choice(32, pattern, 64, text, 66, 1, 63, -BREAKWARP_REFUSED_ROOM, NULL);
+        try_choice(32, pattern, 64, text, 66, 3, 0, -BREAKWARP_REFUSED_START, NULL);
+    }
+}
+
+/* As many different sets as can stand at a start, 128: their low seven bits differ, and what pair j shares is base letter
+ * 8 + j % 24. Then the set of position 61 stands at 63 too, over the same text letter, and over another one that it has. */
+static void many_sets(void)
+{
+    uint32_t pattern[64], text[64], due[64];
+    for (uint32_t j = 0; j < 64; j++) {
+        due[j] = 8 + j % 24;
+        pattern[j] = UINT32_C(1) << due[j] | 2 * j;
+        text[j] = UINT32_C(1) << due[j] | (127 ^ 2 * j);
+    }
+    try_bound(32, pattern, 64, text, 64, 1, 1, at0);
+    try_choice(32, pattern, 64, text, 64, 0, 65, 1, due);
+    pattern[63] = pattern[61];
+    text[63] = text[61];
+    due[63] = due[61];
+    try_bound(32, pattern, 64, text, 64, 1, 1, at0);
+    try_choice(32, pattern, 64, text, 64, 0, 65, 1, due);
+    text[63] = 2;
+    try_search(0, 32, pattern, 64, text, 64, 1, 3, 1, at0, NULL);
+    try_bound(32, pattern, 64, text, 64, 1, 0, NULL);
+    try_choice(32, pattern, 64, text, 64, 0, 65, 0, NULL);
+}
+
+/* The largest text, the longest pattern, the largest alphabet, and one more of each; the last start and the next one. */
+static void bound_limits(void)
+{
+    uint32_t *text = alike(BREAKWARP_MAX_N + 1, UINT32_C(3) << 30), *pattern = alike(65, UINT32_C(1) << 31);
+    uint32_t *hits = alike(BREAKWARP_MAX_N, 0), *due = alike(64, 31);
+    for (size_t i = 0; i < BREAKWARP_MAX_N; i++)
+        hits[i] = (uint32_t)i;
+    try_bound(32, pattern, 64, text, 65536, 65536, 65473, hits);
+    try_bound(32, pattern, 1, text, 65536, 65535, 65536, hits);
+    try_bound(32, pattern, 64, text, 65537, 4, -BREAKWARP_REFUSED_N, NULL);
+    try_bound(32, pattern, 65, text, 65537, 4, -BREAKWARP_REFUSED_M, NULL);
+    try_bound(31, pattern, 64, text, 65536, 4, -BREAKWARP_REFUSED_PATTERN, NULL);
+    try_bound(33, pattern, 65, text, 65537, 4, -BREAKWARP_REFUSED_K, NULL);
+    try_choice(32, pattern, 64, text, 65536, 65472, 64, 1, due);
+    try_choice(32, pattern, 64, text, 65536, 65473, 64, -BREAKWARP_REFUSED_START, NULL);
+    try_choice(32, pattern, 1, text, 65536, 65535, 3, 1, due);
+    try_choice(32, pattern, 1, text, 65536, 65536, 0, -BREAKWARP_REFUSED_START, NULL);
+    try_choice(32, pattern, 64, text, 65537, 65473, 64, -BREAKWARP_REFUSED_N, NULL);
+    try_choice(32, pattern, 65, text, 65537, 0, 65, -BREAKWARP_REFUSED_M, NULL);
+    try_choice(31, pattern, 64, text, 65536, 65473, 0, -BREAKWARP_REFUSED_PATTERN, NULL);
+    try_choice(33, pattern, 65, text, 65537, 0, 65, -BREAKWARP_REFUSED_K, NULL);
+    /* The pattern is the text's own set, which a letter decides, and the letter after it the other way: the 63 starts with
+     * both under them are hits and not listed. */
+    uint32_t *wide = alike(64, UINT32_C(3) << 30);
+    text[65472] = UINT32_C(1) << 31;
+    text[65473] = UINT32_C(1) << 30;
+    try_search(0, 32, wide, 64, text, 65536, 4, 3, 65473, hits, NULL);
+    try_bound(32, wide, 64, text, 65536, 65536, 65410, hits);
+    try_choice(32, wide, 64, text, 65536, 65409, 64, 1, due);
+    try_choice(32, wide, 64, text, 65536, 65410, 64, 0, NULL);
+    try_choice(32, wide, 64, text, 65536, 65472, 64, 0, NULL);
+    for (size_t j = 0; j < 64; j++)
+        due[j] = 30;
+    try_choice(32, wide, 64, text, 65536, 65408, 64, 1, due);
+    free(wide);
+    free(text);
+    free(pattern);
+    free(hits);
+    free(due);
+}
+
+/* The farthest places: the last letter of the longest pattern, and of the largest text, behind nothing but marks. */
+static void far_bounds(void)
+{
+    static const uint32_t a[] = {1}, last[] = {UINT32_C(1) << 31}, end[] = {65535}, due[] = {31};
+    uint32_t *text = alike(BREAKWARP_MAX_N, MARK), *pattern = alike(BREAKWARP_MAX_M, 1);
+    text[BREAKWARP_MAX_N - 1] = last[0];
+    pattern[BREAKWARP_MAX_M - 1] = MARK;
+    try_bound(32, pattern, 64, text, 65536, 4, AT(BREAKWARP_REFUSED_PATTERN, 63), NULL);
+    try_bound(31, a, 1, text, 65536, 4, AT(BREAKWARP_REFUSED_TEXT, 65535), NULL);
+    try_bound(31, a, 1, text, 65535, 4, 0, NULL);
+    try_bound(32, last, 1, text, 65536, 4, 1, end);
+    try_choice(32, pattern, 64, text, 65536, SIZE_MAX, 0, AT(BREAKWARP_REFUSED_PATTERN, 63), NULL);
+    try_choice(31, a, 1, text, 65536, SIZE_MAX, 0, AT(BREAKWARP_REFUSED_TEXT, 65535), NULL);
+    try_choice(31, a, 1, text, 65536, 0, 1, AT(BREAKWARP_REFUSED_TEXT, 65535), NULL);
+    try_choice(32, last, 1, text, 65536, 65535, 1, 1, due);
+    try_choice(32, last, 1, text, 65536, 65534, 1, 0, NULL);
+    free(text);
+    free(pattern);
+}
+
+/* Slices of length 0 with null pointers. */
+static void null_bounds(void)
+{
+    static const uint32_t a[] = {1}, e[] = {2};
+    snprintf(about, sizeof about, "the bound mode with null pointers");
+    same("no text, no list", breakwarp_bound(3, a, 1, NULL, 0, NULL, 0), 0);
+    same("no list", breakwarp_bound(3, a, 1, a, 1, NULL, 0), 1);
+    same("no pattern", breakwarp_bound(3, NULL, 0, NULL, 0, NULL, 0), -BREAKWARP_REFUSED_M);
+    same("no alphabet", breakwarp_bound(0, NULL, 0, NULL, 0, NULL, 0), -BREAKWARP_REFUSED_K);
+    same("no text, no choice", breakwarp_bound_choice(3, a, 1, NULL, 0, 0, NULL, 0), -BREAKWARP_REFUSED_START);
+    same("behind the text", breakwarp_bound_choice(3, a, 1, a, 1, 1, NULL, 0), -BREAKWARP_REFUSED_START);
+    same("no room", breakwarp_bound_choice(3, a, 1, a, 1, 0, NULL, 0), -BREAKWARP_REFUSED_ROOM);
+    same("no room, not listed", breakwarp_bound_choice(3, a, 1, e, 1, 0, NULL, 0), -BREAKWARP_REFUSED_ROOM);
+    same("no pattern at a start", breakwarp_bound_choice(3, NULL, 0, NULL, 0, 0, NULL, 0), -BREAKWARP_REFUSED_M);
+    same("no alphabet at a start", breakwarp_bound_choice(0, NULL, 0, NULL, 0, 0, NULL, 0), -BREAKWARP_REFUSED_K);
+}
+
+/* What each set of at most four base letters may stand for at one start, narrowed pair by pair until nothing changes;
+ * whether something is left to every pair. */
+static int narrowed(const uint32_t *p, size_t m, const uint32_t *t, uint32_t left[16])
+{
+    int changed = 1;
+    for (uint32_t set = 0; set < 16; set++)
+        left[set] = set;
+    while (changed) {
+        changed = 0;
+        for (size_t j = 0; j < m; j++) {
+            uint32_t both = left[p[j]] & left[t[j]];
+            if (both == 0)
+                return 0;
+            changed |= both != left[p[j]] || both != left[t[j]];
+            left[p[j]] = left[t[j]] = both;
+        }
+    }
+    return 1;
+}
+
+/* So many letters of five, so that the same sets come again; at times marks if `marks`. */
+static void draw_sets(uint32_t *letters, size_t n, const uint32_t sets[5], int marks)
+{
+    for (size_t at = 0; at < n; at++)
+        letters[at] = marks && below(20) == 0 ? MARK : sets[below(5)];
+}
+
+static uint32_t lowest(uint32_t set)
+{
+    uint32_t letter = 0;
+    while ((set >> letter & 1) == 0)
+        letter++;
+    return letter;
+}
+
+/* Beside brute on random pairs: each hit is listed exactly if narrowing leaves something, and what is written is the
+ * lowest of that. Every start is asked about, and two behind the text. */
+static void bounds_beside_brute(void)
+{
+    enum { PAIRS = 240, N = 16 };
+    size_t listed = 0, only_hits = 0;
+    for (size_t pair = 0; pair < PAIRS; pair++) {
+        uint32_t k = 3 + below(2), sets[5], pattern[6], text[N], hits[N], list[N] = {0}, left[16], due[6] = {0};
+        size_t m = 1 + below(LENGTH(pattern)), n = below(N + 1), total = 0, hit = 0;
+        uint64_t work[3];
+        /* All but the first are unsure. */
+        for (size_t set = 0; set < LENGTH(sets); set++)
+            do
+                sets[set] = 1 + below((UINT32_C(1) << k) - 1);
+            while (set > 0 && (sets[set] & (sets[set] - 1)) == 0);
+        draw_sets(pattern, m, sets, 0);
+        draw_sets(text, n, sets, 1);
+        size_t all = (size_t)breakwarp_brute(k, pattern, m, text, n, hits, N, work, 3);
+        for (size_t start = 0; start <= n + 1; start++) {
+            int is_hit = hit < all && hits[hit] == start, is_listed = is_hit && narrowed(pattern, m, text + start, left);
+            int64_t answer = start + m > n ? -BREAKWARP_REFUSED_START : is_listed;
+            hit += (size_t)is_hit;
+            for (size_t j = 0; is_listed && j < m; j++)
+                due[j] = lowest(left[pattern[j]]);
+            if (is_listed)
+                list[total++] = (uint32_t)start;
+            try_choice(k, pattern, m, text, n, start, m + below(3), answer, due);
+        }
+        try_bound(k, pattern, m, text, n, below(N + 1), (int64_t)total, list);
+        listed += total;
+        only_hits += all - total;
+    }
+    snprintf(about, sizeof about, "bound beside brute");
+    same("starts listed, one a pair at least", listed >= PAIRS, 1);
+    same("hits that are not, one in two pairs at least", only_hits >= PAIRS / 2, 1);
+}
+
+static void bound_mode(void)
+{
+    worked_bounds();
+    worked_choices();
+    bound_refusals();
+    far_starts();
+    chained_bounds();
+    many_sets();
+    bound_limits();
+    far_bounds();
+    null_bounds();
+    bounds_beside_brute();
+}
+
 /* ---- products ---- */
 
 typedef int64_t convert(uint32_t k, const uint32_t *from, size_t n, uint32_t *to, size_t cap);
@@ -986,6 +1414,7 @@ int main(void)
     first_limits();
     far_firsts();
     firsts_beside_brute();
+    bound_mode();
     conversions();
     marked_conversions();
     long_conversions();

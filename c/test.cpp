@@ -36,6 +36,15 @@ int main()
         std::puts("c++: the first an in eeean is not found as it should be");
         return 1;
     }
+    const std::array<std::uint32_t, 2> unsure{7, 7}, under{3, 6};
+    std::array<std::uint32_t, 2> choice{};
+    const auto bound = breakwarp_bound(3, unsure.data(), unsure.size(), under.data(), under.size(), hits.data(), 1);
+    const auto chosen = breakwarp_bound_choice(3, unsure.data(), unsure.size(), under.data(), under.size(), 0,
+                                               choice.data(), choice.size());
+    if (bound != 1 || hits[0] != 0 || chosen != 1 || choice != std::array<std::uint32_t, 2>{1, 1}) {
+        std::puts("c++: ** over [ae][en] is not bound as it should be");
+        return 1;
+    }
     const std::array<std::uint32_t, 3> wrong{1, 2, 8};
     const auto refused = breakwarp_brute(3, pattern.data(), pattern.size(), wrong.data(), wrong.size(), hits.data(),
                                          hits.size(), work.data(), work.size());
@@ -44,6 +53,6 @@ int main()
         std::puts("c++: a wrong text letter is not refused at its place");
         return 1;
     }
-    std::puts("c++: 4 checks");
+    std::puts("c++: 5 checks");
     return 0;
 }

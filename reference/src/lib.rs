@@ -4,6 +4,7 @@
 //! one that has the property, a wrong byte is the first one after which nothing right can follow. Nothing is
 //! prepared, packed or remembered to save time, and no code is shared with the library.
 
+pub mod bound;
 pub mod engines;
 pub mod first;
 pub mod letters;

@@ -1,6 +1,7 @@
 //! The calls of c/breakwarp.h answered by the reference, so that compare and the C programs can be tried without the
 //! library. A comparison with these calls says nothing about the library; it shows that the comparison itself works.
 
+use crate::bound::{bound, bound_choice};
 use crate::engines::{search, Engine};
 use crate::first::first;
 use crate::products::{from_products, products_meet, to_products};
@@ -76,6 +77,45 @@ pub unsafe extern "C" fn breakwarp_first(
         check_room(2, nfound)?;
         put(found, nfound, &first.numbers());
         Ok(usize::from(first.start.is_some()))
+    });
+    answer(answered)
+}
+
+/// # Safety
+/// Every pointer is valid for its length, as c/breakwarp.h asks.
+#[no_mangle]
+pub unsafe extern "C" fn breakwarp_bound(
+    k: u32,
+    pattern: *const u32,
+    m: usize,
+    text: *const u32,
+    n: usize,
+    hits: *mut u32,
+    cap: usize,
+) -> i64 {
+    let listed = bound(k, lent(pattern, m), lent(text, n)).map(|starts| {
+        put(hits, cap, &starts);
+        starts.len()
+    });
+    answer(listed)
+}
+
+/// # Safety
+/// Every pointer is valid for its length, as c/breakwarp.h asks.
+#[no_mangle]
+pub unsafe extern "C" fn breakwarp_bound_choice(
+    k: u32,
+    pattern: *const u32,
+    m: usize,
+    text: *const u32,
+    n: usize,
+    start: usize,
+    choice: *mut u32,
+    cap: usize,
+) -> i64 {
+    let answered = bound_choice(k, lent(pattern, m), lent(text, n), start, cap).map(|chosen| {
+        put(choice, cap, chosen.as_deref().unwrap_or(&[]));
+        usize::from(chosen.is_some())
     });
     answer(answered)
 }

@@ -1,5 +1,6 @@
 //! The worked examples of the rules, and the errors that look right.
 
+use reference::bound::{bound, bound_choice, tried};
 use reference::engines::{r, search, Engine, Found, Work, ENGINES};
 use reference::first::{first, First};
 use reference::letters::{hits, meets, single, MARK};
@@ -8,11 +9,19 @@ use reference::refusals::{Refusal, MAX_N};
 use reference::report::{printed, report};
 use reference::sheet::{read, write, Room};
 
-/// The letters of a text's line over the alphabet aen.
-fn aen(line: &str) -> Vec<u32> {
-    let sheet = |n: usize| format!("3\naen\n1\na\n{n}\n{line}\n");
+/// The letters of a text's line over an alphabet.
+fn letters(alphabet: &str, line: &str) -> Vec<u32> {
+    let sheet = |n: usize| format!("{}\n{alphabet}\n1\na\n{n}\n{line}\n", alphabet.len());
     let read = |n| read(sheet(n).as_bytes(), Room::AMPLE);
     (0..=line.len()).find_map(|n| read(n).ok()).unwrap_or_else(|| panic!("{line} is no letter line")).text
+}
+
+fn aen(line: &str) -> Vec<u32> {
+    letters("aen", line)
+}
+
+fn abcd(line: &str) -> Vec<u32> {
+    letters("abcd", line)
 }
 
 fn found(engine: Engine, pattern: &str, text: &str) -> Found {
@@ -148,6 +157,89 @@ fn the_first_hit() {
 fn c_is_given_the_start_only_if_there_is_one() {
     assert_eq!(First { start: Some(3), scan: 5 }.numbers(), [5, 3]);
     assert_eq!(First { start: None, scan: 1 }.numbers(), [1]);
+}
+
+/// The starts that are bound-listed over abcd.
+#[test]
+fn the_bound_starts() {
+    let rows: [(&str, &str, &[u32], &[u32]); 12] = [
+        // Pattern, text, hits, bound starts. Narrowing from left to right passes the first one.
+        ("[ab][abc][ab]", "[abc]ab", &[0], &[]),
+        ("[ab][bc]", "[ac][ab]", &[0], &[]),
+        ("[abc][abc]", "[ab][bc]", &[0], &[0]),
+        ("[ab]", "[ab]", &[0], &[0]),
+        ("[ab][ab]", "aabb[ab][ab]", &[0, 1, 2, 3, 4], &[0, 2, 3, 4]),
+        ("[ab]", "|[ab]ac", &[1, 2], &[1, 2]),
+        // A choice holds for one hit, and the next one has its own.
+        ("[ab]", "abab", &[0, 1, 2, 3], &[0, 1, 2, 3]),
+        ("*", "|", &[], &[]),
+        ("**", "*|*", &[], &[]),
+        ("ab", "a", &[], &[]),
+        ("ab", "", &[], &[]),
+        // One set in the pattern and under it.
+        ("a[ab]", "[ab]b", &[0], &[]),
+    ];
+    for (pattern, text, all, listed) in rows {
+        let (p, t) = (abcd(pattern), abcd(text));
+        assert_eq!(hits(&p, &t), all, "{pattern} in {text}");
+        assert_eq!(bound(4, &p, &t), Ok(listed.to_vec()), "{pattern} in {text}");
+    }
+}
+
+/// The choices over abcd, each at a start that is a hit.
+#[test]
+fn the_bound_choices() {
+    let rows: [(&str, &str, usize, Option<&[u32]>); 13] = [
+        ("[ab][abc][ab]", "[abc]ab", 0, None),
+        ("[ab][bc]", "[ac][ab]", 0, None),
+        ("[abc][abc]", "[ab][bc]", 0, Some(&[1, 1])),
+        ("[ab]", "[ab]", 0, Some(&[0])),
+        ("[ab][ab]", "aabb[ab][ab]", 0, Some(&[0, 0])),
+        ("[ab][ab]", "aabb[ab][ab]", 1, None),
+        ("[ab][ab]", "aabb[ab][ab]", 2, Some(&[1, 1])),
+        // The second pair is one set twice, and the first one has decided.
+        ("[ab][ab]", "aabb[ab][ab]", 3, Some(&[1, 1])),
+        ("[ab][ab]", "aabb[ab][ab]", 4, Some(&[0, 0])),
+        ("[ab]", "|[ab]ac", 2, Some(&[0])),
+        ("*[cd]", "[bcd]d", 0, Some(&[1, 3])),
+        // d decides at the end, and all that is tied to it follows.
+        ("[ad][bd][cd]", "[bd][cd]d", 0, Some(&[3, 3, 3])),
+        ("b", "*", 0, Some(&[1])),
+    ];
+    for (pattern, text, start, due) in rows {
+        let (p, t) = (abcd(pattern), abcd(text));
+        let due = due.map(<[u32]>::to_vec);
+        assert_eq!(tried(&p, &t[start..start + p.len()]), due, "{pattern} in {text} at {start}");
+        for lent in p.len()..p.len() + 3 {
+            assert_eq!(bound_choice(4, &p, &t, start, lent), Ok(due.clone()), "{pattern} in {text} at {start}");
+        }
+    }
+}
+
+#[test]
+fn refused_choices() {
+    let refused = |pattern: &[u32], text: &[u32], start, lent| {
+        bound_choice(4, pattern, text, start, lent).err().map(|r| (r.number, r.place))
+    };
+    let (p, t) = (abcd("[ab][ab]"), abcd("aabb[ab][ab]"));
+    assert_eq!(refused(&p, &t, 4, 2), None);
+    for start in [5, 6, 7, 65_536, 1 << 32, usize::MAX - 2, usize::MAX - 1, usize::MAX] {
+        assert_eq!(refused(&p, &t, start, 2), Some((16, 0)), "start {start}");
+        assert_eq!(refused(&p, &t, start, 0), Some((16, 0)), "start {start}, no room");
+    }
+    // A short list is refused whether the start is listed, as 0, or not, as 1.
+    for (start, lent) in [(0, 0), (0, 1), (1, 0), (1, 1)] {
+        assert_eq!(refused(&p, &t, start, lent), Some((8, 0)));
+    }
+    assert_eq!(refused(&p, &t[..1], 0, 2), Some((16, 0)));
+    assert_eq!(refused(&p, &[], 0, 2), Some((16, 0)));
+    // What a search refuses comes before both.
+    assert_eq!(refused(&[1, MARK], &[1, 16], 9, 0), Some((4, 1)));
+    assert_eq!(refused(&[1], &[MARK, 1, 16], usize::MAX, 0), Some((5, 2)));
+    assert_eq!(refused(&[], &[16], 9, 0), Some((2, 0)));
+    assert_eq!(bound(4, &[1], &[1, MARK, 16]), Err(Refusal { number: 5, place: 2 }));
+    assert_eq!(bound(0, &[], &[]), Err(Refusal { number: 1, place: 0 }));
+    assert_eq!(bound(4, &[1], &vec![1; MAX_N + 1]), Err(Refusal { number: 3, place: 0 }));
 }
 
 #[test]

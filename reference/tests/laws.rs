@@ -1,9 +1,10 @@
 //! What the rules say about themselves, tried on the reference: bounds, round trips, entries that are searched apart,
 //! and the two places where the reference takes a short way round a definition.
 
+use reference::bound::{bound_starts, choice, chosen, given, tied, tried};
 use reference::engines::{Engine, Work, ENGINES};
 use reference::first::first_hit;
-use reference::letters::{hits, meets, whole, MARK};
+use reference::letters::{hit, hits, meets, members, single, whole, MARK};
 use reference::products::{from_products, is_product, letter, product, products_meet};
 use reference::sheet::{begins_letter, begins_letter_line, bytes, read, spelling, Line, Room, Sheet};
 use std::collections::HashSet;
@@ -256,6 +257,166 @@ fn the_first_hit_does_not_see_the_tail() {
                 assert_eq!(first_hit(pattern, &[cut, tail].concat()), found, "{pattern:?} {text:?} {tail:?}");
             }
         }
+    }
+}
+
+/// Every pattern of one to so many letters over k base letters, with every text as long, marks among them: all that may
+/// stand at one start.
+fn each_window(k: u32, longest: usize, with: impl Fn(&[u32], &[u32])) {
+    let sets: Vec<u32> = (1..=whole(k)).collect();
+    let sets_and_mark: Vec<u32> = (MARK..=whole(k)).collect();
+    for m in 1..=longest {
+        let unders = strings(&sets_and_mark, m);
+        for pattern in &strings(&sets, m) {
+            unders.iter().for_each(|under| with(pattern, under));
+        }
+    }
+}
+
+/// Random windows in which most pairs meet: a few sets, each pair drawn anew until it meets, one in nine left as drawn.
+fn random_windows(rounds: u64, most: u64, mut with: impl FnMut(&[u32], &[u32])) {
+    let mut random = Random(2);
+    for _ in 0..rounds {
+        let k = 2 + random.below(4);
+        let m = 1 + random.below(most);
+        let sets: Vec<u32> = (0..3 + random.below(5)).map(|_| 1 + random.below((1 << k) - 1) as u32).collect();
+        let (mut pattern, mut under) = (vec![], vec![]);
+        for _ in 0..m {
+            let mut draw = || sets[random.below(sets.len() as u64) as usize];
+            let (mut p, mut t) = (draw(), draw());
+            while !meets(p, t) && random.below(9) > 0 {
+                let mut draw = || sets[random.below(sets.len() as u64) as usize];
+                (p, t) = (draw(), draw());
+            }
+            pattern.push(p);
+            under.push(t);
+        }
+        with(&pattern, &under);
+    }
+}
+
+/// To ask which sets are tied comes to the same as to try every choice.
+fn both_ways_agree(pattern: &[u32], under: &[u32]) {
+    assert_eq!(tied(pattern, under), tried(pattern, under), "{pattern:?} over {under:?}");
+}
+
+#[test]
+fn ties_come_to_the_same_as_every_choice() {
+    for (k, longest) in [(1, 5), (2, 4), (3, 3), (4, 2)] {
+        each_window(k, longest, both_ways_agree);
+    }
+}
+
+#[test]
+fn ties_come_to_the_same_as_every_choice_on_random_windows() {
+    let (mut listed, mut only_hits) = (0, 0);
+    random_windows(40_000, 7, |pattern, under| {
+        both_ways_agree(pattern, under);
+        listed += u32::from(tied(pattern, under).is_some());
+        only_hits += u32::from(hit(pattern, under, 0) && tied(pattern, under).is_none());
+    });
+    // Neither is rare, or little would have been tried.
+    assert!(listed > 8_000 && only_hits > 8_000, "{listed} listed, {only_hits} only hits");
+}
+
+/// What is written is the letter of a set, one for all its places, and it is the lowest that any choice gives: the
+/// lowest of all sets are reached at once, by one choice.
+fn the_choice_is_one_and_the_lowest(pattern: &[u32], under: &[u32]) {
+    let Some(written) = tied(pattern, under) else { return };
+    let all = chosen(pattern, under);
+    let gives = |c: &Vec<(u32, u32)>| pattern.iter().map(|set| given(c, *set).unwrap()).collect::<Vec<u32>>();
+    assert!(all.iter().any(|c| gives(c) == written), "{pattern:?} over {under:?}: {written:?} is no choice");
+    for c in &all {
+        let lower = gives(c).iter().zip(&written).any(|(other, letter)| other < letter);
+        assert!(!lower, "{pattern:?} over {under:?}: {c:?} has a lower letter than {written:?}");
+    }
+    for (j, letter) in written.iter().enumerate() {
+        let in_both = members(pattern[j]).any(|b| b == *letter) && members(under[j]).any(|b| b == *letter);
+        assert!(in_both, "{pattern:?} over {under:?}: {letter} at {j}");
+    }
+}
+
+#[test]
+fn the_written_choice_is_a_choice_and_the_lowest() {
+    for (k, longest) in [(2, 4), (3, 2), (4, 2)] {
+        each_window(k, longest, the_choice_is_one_and_the_lowest);
+    }
+    random_windows(10_000, 6, the_choice_is_one_and_the_lowest);
+}
+
+/// It does not matter in which order the pairs stand, nor which of two paired sets is the pattern's.
+#[test]
+fn a_choice_knows_no_order_and_no_side() {
+    random_windows(20_000, 12, |pattern, under| {
+        let mirrored = |letters: &[u32]| letters.iter().rev().copied().collect::<Vec<u32>>();
+        let choice = tied(pattern, under);
+        let back = tied(&mirrored(pattern), &mirrored(under));
+        assert_eq!(back.map(|back| mirrored(&back)), choice, "{pattern:?} over {under:?} from its end");
+        assert_eq!(tied(under, pattern), choice, "{under:?} over {pattern:?}");
+    });
+}
+
+/// Every bound start is a hit, and a start is bound-listed exactly if there is a choice at it.
+#[test]
+fn every_bound_start_is_a_hit() {
+    let texts = up_to(&SETS_AND_MARK, 6);
+    for pattern in &patterns(&SETS, 3) {
+        for text in &texts {
+            let listed = bound_starts(pattern, text);
+            assert!(listed.iter().all(|start| hit(pattern, text, *start as usize)), "{pattern:?} {text:?}");
+            for i in 0..text.len() + 2 {
+                let there = choice(pattern, text, i).is_some();
+                assert_eq!(there, listed.contains(&(i as u32)), "{pattern:?} {text:?} {i}");
+            }
+        }
+    }
+}
+
+/// Where one side has single letters only, all hits are bound starts if no unsure set stands twice; where both have,
+/// always.
+#[test]
+fn on_single_letters_the_bound_starts_are_the_hits() {
+    let texts = up_to(&[MARK, 1, 2, 4], 6);
+    for pattern in &patterns(&[1, 2, 4], 3) {
+        for text in &texts {
+            assert_eq!(bound_starts(pattern, text), hits(pattern, text), "{pattern:?} {text:?}");
+        }
+    }
+    for pattern in &patterns(&[1, 2, 3, 4, 5, 6, 7], 2) {
+        let unsure: Vec<&u32> = pattern.iter().filter(|c| !single(**c)).collect();
+        if unsure.len() == 2 && unsure[0] == unsure[1] {
+            continue;
+        }
+        for text in texts.iter().filter(|text| text.len() < 5) {
+            assert_eq!(bound_starts(pattern, text), hits(pattern, text), "{pattern:?} {text:?}");
+        }
+    }
+}
+
+/// Entries are bound each by itself.
+fn entries_are_bound_apart(pattern: &[u32], first: &[u32], second: &[u32]) {
+    let joined = [first, &[MARK], second].concat();
+    let moved = bound_starts(pattern, second).into_iter().map(|start| start + first.len() as u32 + 1);
+    let apart: Vec<u32> = bound_starts(pattern, first).into_iter().chain(moved).collect();
+    assert_eq!(bound_starts(pattern, &joined), apart, "{pattern:?} {first:?} {second:?}");
+}
+
+#[test]
+fn two_bound_entries() {
+    let entries = up_to(&SETS_AND_MARK, 3);
+    for pattern in &patterns(&SETS, 3) {
+        for first in &entries {
+            entries.iter().for_each(|second| entries_are_bound_apart(pattern, first, second));
+        }
+    }
+    let mut random = Random(3);
+    for round in 0..5_000 {
+        let k = [1, 2, 3, 9, 32][round % 5];
+        let m = 1 + random.below(if round % 50 == 0 { 64 } else { 6 });
+        let pattern = random.letters(k, m);
+        let (a, b) = (random.below(3 * m + 9), random.below(3 * m + 9));
+        let (first, second) = (random.entries(k, a, 2 * m + 2), random.entries(k, b, 2 * m + 2));
+        entries_are_bound_apart(&pattern, &first, &second);
     }
 }
 

@@ -113,8 +113,8 @@ module _ (A B : List ℕ) (C : List ℕ) where
 
   -- the joins of one pair more
   pub pass-on : (h a b : ℕ) (own once twice : List ℕ) (changed first second : Bool) → own ≡ passed A B h C → changed ≡ stirred A B h C → a ≡ getD A h 0 → b ≡ getD B h 0
-      → (first ≡ differs a h own) × (once ≡ joined a h own) → (second ≡ differs b h once) × (twice ≡ joined b h once)
-      → ((changed || (first || second)) ≡ stirred A B (h + 1) C) × (twice ≡ passed A B (h + 1) C)
+      → (first ≡ (changed || differs a h own)) × (once ≡ joined a h own) → (second ≡ (first || differs b h once)) × (twice ≡ joined b h once)
+      → (second ≡ stirred A B (h + 1) C) × (twice ≡ passed A B (h + 1) C)
   unfolding passed stirred
   pass-on h a b own once twice changed first second eo ec ea eb one two = rw (add-one h, two .1, two .0, one .1, one .0, eo, ec, ea, eb) (refl, refl)
 
@@ -162,10 +162,10 @@ module _ (A B : List ℕ) (C : List ℕ) where
     unfolding passed stirred
     passed-still zero l e = (refl, λ j k. absurd (omega arith))
     passed-still (suc h) l e =
-        let w = passed-still h (omega arith) (or-false-l _ _ e) in
-        let r = or-false-r (stirred A B h C) _ e in
-        let da = or-false-l (differs (getD A h 0) h (passed A B h C)) _ r in
-        let db = or-false-r (differs (getD A h 0) h (passed A B h C)) _ r in
+        let r = or-false-l (stirred A B h C || differs (getD A h 0) h (passed A B h C)) _ e in
+        let db = or-false-r (stirred A B h C || differs (getD A h 0) h (passed A B h C)) _ e in
+        let w = passed-still h (omega arith) (or-false-l (stirred A B h C) _ r) in
+        let da = or-false-r (stirred A B h C) _ r in
         let one : once h l ≡ C = joined-same (getD A h 0) h (passed A B h C) da ∙ w .0 in (
           joined-same (getD B h 0) h (once h l) db ∙ one,
           λ j k.

@@ -67,7 +67,7 @@ passed A B (suc h) C = joined (getD B h 0) h (joined (getD A h 0) h (passed A B 
 
 unfoldable pub stirred : List ℕ → List ℕ → ℕ → List ℕ → Bool
 stirred A B zero C = false
-stirred A B (suc h) C = stirred A B h C || (differs (getD A h 0) h (passed A B h C) || differs (getD B h 0) h (joined (getD A h 0) h (passed A B h C)))
+stirred A B (suc h) C = (stirred A B h C || differs (getD A h 0) h (passed A B h C)) || differs (getD B h 0) h (joined (getD A h 0) h (passed A B h C))
 
 pub record Settled (P T : List ℕ) (i : ℕ) (C : List ℕ) : Type 0 where
   pub cands : Candidates P T i C

@@ -7,26 +7,20 @@ ghost use mathlib.Core.Bool.{_||_};
 ghost use Prim.Native.Nat.{_≤_, _<_};
 ghost use Rattle.choices.specs.Candidates.{Backward, differs, joined, passed, stirred};
 
-// Cuts the sets of two pairs to what they have in common; whether they differed.
-fn join(own: &mut [u32; Pattern::MAX_M], a: usize, j: usize) -> bool
+// Cuts the sets of two pairs to what they have in common; whether something was changed before, or they differed.
+fn join(own: &mut [u32; Pattern::MAX_M], a: usize, j: usize, changed: bool) -> bool
     requires { do M ← ⟦Pattern::MAX_M⟧; ⌜ (a < M) × (j < M) ⌝ }
-    ensures { λ r. ⌜ (r ≡ differs a j (now (own .entry))) × (now (own .exit) ≡ joined a j (now (own .entry))) ⌝ }
+    ensures { λ r. ⌜ (r ≡ (changed || differs a j (now (own .entry)))) × (now (own .exit) ≡ joined a j (now (own .entry))) ⌝ }
 {
     let x = own[a];
     let y = own[j];
     if x == y {
-        return false;
+        return changed;
     }
     let both = common(x, y);
     own[a] = both;
     own[j] = both;
     true
-}
-
-fn either(a: bool, b: bool) -> bool
-    ensures { λ r. ⌜ r ≡ (a || b) ⌝ }
-{
-    if a { true } else { b }
 }
 
 // Joins each of the m pairs with the two that it is tied to; whether this changed a set.
@@ -42,9 +36,8 @@ pub fn pass(
     let mut changed = false;
     let mut j = 0;
     while j < m {
-        let first = join(own, index(above[j]), j);
-        let second = join(own, index(under[j]), j);
-        changed = either(changed, either(first, second));
+        changed = join(own, index(above[j]), j, changed);
+        changed = join(own, index(under[j]), j, changed);
         j += 1;
     }
     changed

@@ -227,43 +227,29 @@ fn say_choice(a: Choice) {
     }
 }
 
-// The longest pattern of one unsure letter in its own sets, once with a letter at the end that is none of them; and one letter too many.
+// The longest pattern, of one unsure letter, in its own sets and another letter at the end.
 fn bound_of_m() {
-    let longer = [3u32; 65];
+    let longest = [3u32; 64];
     let mut text = [3u32; 66];
-    let mut list = [9u32; 2];
-    words(b"bound, m 64 in 66, and with another letter at the end; m 65\n");
-    say_bound(bound::search(2, &longer[..64], &text, &mut list));
     text[65] = 4;
-    say_bound(bound::search(3, &longer[..64], &text, &mut list));
-    say_bound(bound::search(2, &longer, &text, &mut list));
-    say_number(wide(list[0]), b" ");
-    say_number(wide(list[1]), b"\n");
+    let mut list = [9u32; 1];
+    words(b"bound, m 64 in 66, a list of one\n");
+    say_bound(bound::search(3, &longest, &text, &mut list));
+    say_number(wide(list[0]), b"\n");
 }
 
-// The choice for the longest pattern, of sets alone and with a letter at the end that decides.
+// Its choice where the last letter under it decides; one start too far, and the farthest.
 fn choice_of_m() {
     let longest = [3u32; 64];
     let mut text = [3u32; 65];
     text[64] = 2;
     let mut choice = [9u32; 65];
-    words(b"choice, m 64 at 0, and at 1, where the last letter decides\n");
-    say_choice(choose(2, &longest, &text, 0, &mut choice));
-    say_number(wide(choice[63]), b"\n");
+    words(b"choice, m 64 in 65 at 1, at 2 and at the farthest start\n");
     say_choice(choose(2, &longest, &text, 1, &mut choice));
+    say_choice(choose(2, &longest, &text, 2, &mut choice));
+    say_choice(choose(2, &longest, &text, 18446744073709551615, &mut choice));
     say_number(wide(choice[0]), b" ");
     say_number(wide(choice[64]), b"\n");
-}
-
-// One start too far, and the farthest; a list too short.
-fn choice_refused() {
-    let longest = [3u32; 64];
-    let text = [3u32; 65];
-    let mut short = [9u32; 63];
-    words(b"choice, m 64 at 2 of 65, at the farthest start, with 63 lent\n");
-    say_choice(choose(2, &longest, &text, 2, &mut short));
-    say_choice(choose(2, &longest, &text, 18446744073709551615, &mut short));
-    say_choice(choose(2, &longest, &text, 0, &mut short));
 }
 
 fn sheet(s: &[u8]) {
@@ -326,7 +312,6 @@ fn main() {
     cut_name();
     bound_of_m();
     choice_of_m();
-    choice_refused();
     sheets();
     marked_sheets();
     capacity();

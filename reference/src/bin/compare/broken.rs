@@ -19,21 +19,38 @@ const fn slip(name: &'static str, groups: &'static [&'static str], what: &'stati
 }
 
 const SEARCHES: &[&str] = &["exhaustive", "random", "limits"];
+const LISTS: &[&str] = &["exhaustive", "random", "limits", "bound"];
 const RUNS: &[&str] = &["exhaustive", "random", "limits", "first"];
+const STARTS: &[&str] = &["exhaustive", "random", "limits", "first", "bound"];
 const SHEETS: &[&str] = &["read", "program"];
 const READERS: &[&str] = &["read", "reports", "program"];
 const FIRST: &[&str] = &["first"];
-const PLACES: &[&str] = &["refusals", "first", "products", "read", "write", "program"];
-const TAKEN: &[&str] = &["refusals", "first", "read", "write", "reports", "program"];
-const FOUND: &[&str] = &["exhaustive", "random", "limits", "first", "reports", "program"];
-const MET: &[&str] = &["exhaustive", "random", "limits", "first", "products", "reports", "program"];
-const EVERY: &[&str] =
-    &["exhaustive", "random", "limits", "refusals", "first", "products", "read", "write", "reports", "program"];
+const BOUND: &[&str] = &["bound"];
+const CHECKS: &[&str] = &["refusals", "first", "bound"];
+const LIMITS: &[&str] = &["limits", "refusals", "first", "bound"];
+const PLACES: &[&str] = &["refusals", "first", "bound", "products", "read", "write", "program"];
+const LETTERS: &[&str] = &["refusals", "first", "bound", "products", "write"];
+const TAKEN: &[&str] = &["refusals", "first", "bound", "read", "write", "reports", "program"];
+const FOUND: &[&str] = &["exhaustive", "random", "limits", "first", "bound", "reports", "program"];
+const MET: &[&str] = &["exhaustive", "random", "limits", "first", "bound", "products", "reports", "program"];
+const EVERY: &[&str] = &[
+    "exhaustive",
+    "random",
+    "limits",
+    "refusals",
+    "first",
+    "bound",
+    "products",
+    "read",
+    "write",
+    "reports",
+    "program",
+];
 
 pub const SLIPS: &[Slip] = &[
-    slip("total", SEARCHES, "the total is one too high where there are hits"),
-    slip("last-start", SEARCHES, "the list lacks the last start that it holds"),
-    slip("tail", SEARCHES, "the cell after the last hit is expected to be written"),
+    slip("total", LISTS, "the total is one too high where there are hits"),
+    slip("last-start", LISTS, "the list lacks the last start that it holds"),
+    slip("tail", LISTS, "the cell after the last hit is expected to be written"),
     slip("scan", RUNS, "scan tests are one too high where there are any"),
     slip("shift", SEARCHES, "shift tests are one too high where there are any"),
     slip("words", SEARCHES, "word steps are one too high where there are any"),
@@ -45,13 +62,13 @@ pub const SLIPS: &[Slip] = &[
     slip("bm-met-only", &["exhaustive", "random"], "BM asks only the letters that met to be single, not all of P"),
     slip("lowest-member", SEARCHES, "R looks at the lowest member of an unsure letter alone"),
     slip("hybrid-one-on", SEARCHES, "Hybrid goes one on after a failure, not as Sunday does"),
-    slip("k-32", &["limits", "refusals", "first"], "an alphabet of 32 is refused"),
-    slip("m-64", &["limits", "refusals", "first"], "a pattern of 64 letters is refused"),
-    slip("n-65536", &["limits", "first"], "a text of 65,536 letters is refused"),
-    slip("order-23", &["refusals", "first"], "3 is checked before 2"),
-    slip("order-45", &["refusals", "first"], "5 is checked before 4"),
+    slip("k-32", LIMITS, "an alphabet of 32 is refused"),
+    slip("m-64", LIMITS, "a pattern of 64 letters is refused"),
+    slip("n-65536", &["limits", "first", "bound"], "a text of 65,536 letters is refused"),
+    slip("order-23", CHECKS, "3 is checked before 2"),
+    slip("order-45", CHECKS, "5 is checked before 4"),
     slip("work-first", &["refusals"], "the 8 for the counts comes before 4 and 5"),
-    slip("refused-writes", &["refusals", "first"], "a refused search writes its counts as 0"),
+    slip("refused-writes", CHECKS, "a refused search writes 0s"),
     slip("first-goes-on", FIRST, "the starts after the first hit are tested and counted too"),
     slip("first-last", FIRST, "the last hit is named, with the tests of all starts"),
     slip("first-count", FIRST, "the tests at the hit itself are left out"),
@@ -68,6 +85,44 @@ pub const SLIPS: &[Slip] = &[
     slip("first-room-hit", FIRST, "8 is asked only where there is a hit"),
     slip("first-room-1", FIRST, "one number lent is enough"),
     slip("first-room-3", FIRST, "three numbers must be lent, as for the counts of a search"),
+    slip("bound-hits", BOUND, "every hit is listed, each pair with the lowest letter that it shares"),
+    slip("bound-one-pass", BOUND, "sets are narrowed pair by pair, once from left to right"),
+    slip("bound-two-passes", BOUND, "sets are narrowed twice from left to right"),
+    slip("bound-there-and-back", BOUND, "sets are narrowed once from left to right and once back"),
+    slip("bound-32-passes", BOUND, "sets are narrowed 32 times from left to right, and no more"),
+    slip("bound-64-sets", BOUND, "only the first 64 different sets of a start are tied"),
+    slip("bound-greedy", BOUND, "a set keeps the lowest letter that its first pair leaves it"),
+    slip("bound-untied-sides", BOUND, "a set of the pattern is not tied to the same set of the text"),
+    slip("bound-untied-text", BOUND, "equal sets of the text are not tied"),
+    slip("bound-untied-pattern", BOUND, "equal sets of the pattern are not tied"),
+    slip("bound-singles-free", BOUND, "a single letter that meets its pair binds nothing"),
+    slip("bound-mark-any", BOUND, "a mark agrees with everything"),
+    slip("bound-carries", BOUND, "a set keeps the letter of its first hit in all later ones"),
+    slip("bound-apart", BOUND, "a start within the hit before it is not listed"),
+    slip("bound-short", BOUND, "the last start is not tried for the list"),
+    slip("bound-cut", BOUND, "the total is cut off where the list ends"),
+    slip("bound-list-room", BOUND, "a list that is too short is refused with 8"),
+    slip("bound-highest", BOUND, "the highest letter is written, not the lowest"),
+    slip("bound-pair-lowest", BOUND, "the lowest letter that the pair shares is written, without ties"),
+    slip("bound-own-lowest", BOUND, "the lowest letter of the pattern's set is written"),
+    slip("bound-letter", BOUND, "the letter is written as a set, not as its number"),
+    slip("bound-from-1", BOUND, "base letters are numbered from 1"),
+    slip("bound-singles-0", BOUND, "0 is written for a single letter"),
+    slip("bound-answers-m", BOUND, "the numbers written are counted in the answer, which is to be 1"),
+    slip("bound-none-writes", BOUND, "a choice is written though the start is not listed"),
+    slip("bound-none-refused", BOUND, "a start that is not listed is refused with 16"),
+    slip("bound-writes-beyond", BOUND, "one more number is written where more are lent"),
+    slip("bound-window", BOUND, "a wrong text letter that is not under the pattern is not refused at one start"),
+    slip("bound-start-early", BOUND, "16 comes before 4 and 5"),
+    slip("bound-start-wraps", BOUND, "the start and m are added without regard to the largest size"),
+    slip("bound-start-32", BOUND, "the start is cut to 32 bits"),
+    slip("bound-start-last", BOUND, "the last start is refused with 16"),
+    slip("bound-start-beyond", BOUND, "the start after the last one is not refused"),
+    slip("bound-start-n", BOUND, "16 is asked of the start alone, not of its sum with m"),
+    slip("bound-start-place", BOUND, "the start is the place of a 16"),
+    slip("bound-room-early", BOUND, "8 comes before 4 and 5"),
+    slip("bound-room-first", BOUND, "8 comes before 16"),
+    slip("bound-room-listed", BOUND, "8 is asked only where the start is listed"),
     slip("product", &["products"], "the product of all nine letters is one too high"),
     slip("letter", &["products"], "the product of all nine primes gives a letter without its last member"),
     slip("one", &["products"], "1 is refused as no product"),
@@ -99,11 +154,15 @@ pub const SLIPS: &[Slip] = &[
     slip("report-place", &["reports"], "a refused report tells its place"),
     slip("place", PLACES, "every place but 0 is one too high"),
     slip("no-place", PLACES, "every place is 0"),
-    slip("place-4", &["refusals", "first", "write"], "the place of a 4 is one too high"),
-    slip("place-5", &["refusals", "first", "products", "write"], "the place of a 5 is one too high"),
+    slip("place-4", &["refusals", "first", "bound", "write"], "the place of a 4 is one too high"),
+    slip("place-5", LETTERS, "the place of a 5 is one too high"),
     slip("place-7", &["products"], "the place of a 7 is one too high"),
     slip("place-12", &["read", "write", "program"], "the place of a 12 is one too high"),
-    slip("highest", &["refusals", "first", "products"], "the highest index of a wrong letter is named, not the lowest"),
+    slip(
+        "highest",
+        &["refusals", "first", "bound", "products"],
+        "the highest index of a wrong letter is named, not the lowest",
+    ),
     slip("highest-7", &["products"], "the highest index of a value that is no product is named"),
     slip("second-at-0", &["products"], "the second of two products is named as the first"),
     slip("write-first-of-two", &["write"], "of two equal bytes of an alphabet the first is named"),
@@ -117,7 +176,7 @@ pub const SLIPS: &[Slip] = &[
     slip("line-end", &["program"], "the last line has no LF"),
     slip("mark-star", MET, "a mark belongs to `*`: the letter of all k meets it"),
     slip("mark-ends", FOUND, "the text ends at its first mark"),
-    slip("mark-starts", RUNS, "starts are counted from the beginning of their entry"),
+    slip("mark-starts", STARTS, "starts are counted from the beginning of their entry"),
     slip("mark-r", SEARCHES, "R of a mark is 0"),
     slip("mark-past", RUNS, "KMP and the first hit go on behind a mark that they have come to"),
     slip("mark-refused", EVERY, "a mark in the text is refused, with 5 or 13"),
@@ -126,7 +185,7 @@ pub const SLIPS: &[Slip] = &[
     slip("mark-bracket", READERS, "`|` in a bracket is passed over"),
     slip("mark-bracket-place", SHEETS, "`|` in a bracket is found at the bracket's first byte"),
     slip("mark-uncounted", READERS, "the reader does not count the marks of the text"),
-    slip("mark-place", &["refusals", "first", "products", "write"], "the place of a 5 is counted from its entry on"),
+    slip("mark-place", LETTERS, "the place of a 5 is counted from its entry on"),
     slip("read-mark-star", READERS, "the reader takes `|` for `*`"),
     slip("write-mark-star", &["write"], "the writer spells a mark `*`"),
 ];

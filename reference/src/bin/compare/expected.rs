@@ -1,7 +1,8 @@
 //! What is expected of each call: its answer and every cell that it writes, from the reference.
 
-use crate::broken;
-use crate::library::{ConvertCase, FirstCase, ReadCase, SearchCase, Way, WriteCase};
+use crate::library::{BoundCase, ConvertCase, FirstCase, ReadCase, SearchCase, Way, WriteCase};
+use crate::{broken, broken_bound};
+use reference::bound::{bound, bound_choice, check_start};
 use reference::engines::{search, Engine};
 use reference::first::{first, first_hit};
 use reference::letters::{hits, right_in_pattern, right_in_text, whole, MARK};
@@ -139,6 +140,21 @@ impl Expect {
         refused(self.placed(Refusal { place, ..refusal }))
     }
 
+    /// Cuts all starts off where the lent list ends, with the slip that is made in the list or the total.
+    fn listed(self, out: &mut Outcome, text: &[u32], cap: usize) {
+        let total = out.letters.len();
+        out.letters.truncate(cap);
+        match self.broken {
+            Some("total") if total > 0 => out.answer += 1,
+            Some("last-start") => drop(out.letters.pop()),
+            Some("tail") if total < cap => out.letters.push(0),
+            Some("mark-starts") => {
+                out.letters.iter_mut().for_each(|start| *start = in_entry(text, *start as usize) as u32);
+            }
+            _ => {}
+        }
+    }
+
     pub fn search(self, engine: Engine, case: &SearchCase) -> Outcome {
         let checked = self.checked_search(engine, case);
         let mut out = checked.unwrap_or_else(|r| self.refused_search(case.k, &case.pattern, &case.text, r));
@@ -148,19 +164,12 @@ impl Expect {
             }
             return out;
         }
-        let total = out.letters.len();
-        out.letters.truncate(case.cap);
+        self.listed(&mut out, &case.text, case.cap);
         match self.broken {
-            Some("total") if total > 0 => out.answer += 1,
-            Some("last-start") => drop(out.letters.pop()),
-            Some("tail") if total < case.cap => out.letters.push(0),
             Some("scan") if out.numbers[0] > 0 => out.numbers[0] += 1,
             Some("shift") if out.numbers[1] > 0 => out.numbers[1] += 1,
             Some("words") if out.numbers[2] > 0 => out.numbers[2] += 1,
             Some("fourth-count") if case.nwork > 3 => out.numbers.push(0),
-            Some("mark-starts") => {
-                out.letters.iter_mut().for_each(|start| *start = in_entry(&case.text, *start as usize) as u32);
-            }
             _ => {}
         }
         out
@@ -229,6 +238,101 @@ impl Expect {
         let mut numbers = found.numbers();
         numbers.truncate(*nfound);
         Ok(Outcome { answer: i64::from(found.start.is_some()), numbers, ..Outcome::default() })
+    }
+
+    pub fn bound(self, case: &BoundCase) -> Outcome {
+        let BoundCase { k, pattern, text, cap } = *case;
+        let starts = match self.broken {
+            None => bound(k, pattern, text),
+            name => self.check(k, pattern, text).map(|_| broken_bound::starts(name, k, pattern, text)),
+        };
+        let mut out = match starts {
+            Ok(letters) => Outcome { answer: letters.len() as i64, letters, ..Outcome::default() },
+            Err(refusal) => {
+                let written = if self.is("refused-writes") { cap.min(1) } else { 0 };
+                return Outcome { letters: vec![0; written], ..self.refused_search(k, pattern, text, refusal) };
+            }
+        };
+        match self.broken {
+            Some("bound-list-room") if out.letters.len() > cap => return refused(Refusal { number: 8, place: 0 }),
+            Some("bound-cut") => out.answer = out.answer.min(cap as i64),
+            _ => {}
+        }
+        self.listed(&mut out, text, cap);
+        out
+    }
+
+    pub fn bound_choice(self, case: &BoundCase, start: usize) -> Outcome {
+        let BoundCase { k, pattern, text, cap } = *case;
+        let m = pattern.len();
+        let chosen = match self.checked_choice(case, start) {
+            Ok(chosen) => chosen,
+            Err(mut refusal) => {
+                if self.is("bound-start-place") && refusal.number == 16 {
+                    refusal.place = start;
+                }
+                let written = if self.is("refused-writes") { cap.min(m) } else { 0 };
+                return Outcome { letters: vec![0; written], ..self.refused_search(k, pattern, text, refusal) };
+            }
+        };
+        let listed = chosen.is_some();
+        let mut out = Outcome { answer: i64::from(listed), letters: chosen.unwrap_or_default(), ..Outcome::default() };
+        match self.broken {
+            Some("bound-none-writes") if !listed => out.letters = vec![0; m],
+            Some("bound-none-refused") if !listed => return refused(Refusal { number: 16, place: 0 }),
+            Some("bound-writes-beyond") if listed && cap > m => out.letters.push(0),
+            Some("bound-answers-m") if listed => out.answer = m as i64,
+            _ => {}
+        }
+        out
+    }
+
+    fn checked_choice(self, case: &BoundCase, start: usize) -> Result<Option<Vec<u32>>, Refusal> {
+        let BoundCase { k, pattern, text, cap } = *case;
+        let (m, n) = (pattern.len(), text.len());
+        if self.broken.is_none() {
+            return bound_choice(k, pattern, text, start, cap);
+        }
+        if self.is("bound-start-early") || self.is("bound-room-early") {
+            check_sizes(k, pattern, text)?;
+            if self.is("bound-start-early") {
+                check_start(start, m, n)?
+            } else {
+                check_room(m, cap)?
+            }
+        }
+        let in_window = |place: usize| place >= start && place - start < m;
+        match self.check(k, pattern, text) {
+            Err(Refusal { number: 5, place }) if self.is("bound-window") && !in_window(place) => {}
+            checked => checked?,
+        }
+        if self.is("bound-room-first") {
+            check_room(m, cap)?;
+        }
+        self.check_slipped_start(start, m, n)?;
+        let chosen = broken_bound::choice(self.broken, k, pattern, text, start);
+        if chosen.is_some() || !self.is("bound-room-listed") {
+            check_room(m, cap)?;
+        }
+        Ok(chosen)
+    }
+
+    /// Refusal 16, with a slip in what is compared.
+    fn check_slipped_start(self, start: usize, m: usize, n: usize) -> Result<(), Refusal> {
+        let end = start.saturating_add(m);
+        let taken = match self.broken {
+            Some("bound-start-wraps") => start.wrapping_add(m) <= n,
+            Some("bound-start-32") => start as u32 as usize + m <= n,
+            Some("bound-start-last") => end < n,
+            Some("bound-start-beyond") => end <= n + 1,
+            Some("bound-start-n") => start <= n,
+            _ => return check_start(start, m, n),
+        };
+        if taken {
+            Ok(())
+        } else {
+            refuse(16, 0)
+        }
     }
 
     /// The value that a slip takes this one for.

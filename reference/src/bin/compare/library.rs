@@ -29,6 +29,25 @@ extern "C" {
         found: *mut u64,
         nfound: usize,
     ) -> i64;
+    fn breakwarp_bound(
+        k: u32,
+        pattern: *const u32,
+        m: usize,
+        text: *const u32,
+        n: usize,
+        hits: *mut u32,
+        cap: usize,
+    ) -> i64;
+    fn breakwarp_bound_choice(
+        k: u32,
+        pattern: *const u32,
+        m: usize,
+        text: *const u32,
+        n: usize,
+        start: usize,
+        choice: *mut u32,
+        cap: usize,
+    ) -> i64;
     fn breakwarp_to_products(k: u32, letters: *const u32, n: usize, products: *mut u32, cap: usize) -> i64;
     fn breakwarp_from_products(k: u32, products: *const u32, n: usize, letters: *mut u32, cap: usize) -> i64;
     fn breakwarp_products_meet(k: u32, a: u32, b: u32) -> i64;
@@ -189,6 +208,36 @@ pub fn first(case: &FirstCase, due: &Outcome) -> Result<(), String> {
     let f = found.pointer(null);
     let answer = unsafe { breakwarp_first(*k, p, pattern.len(), t, text.len(), f, *nfound) };
     settle(due, answer, &[found.differs("found", &due.numbers)])
+}
+
+/// A question of the bound mode. Many starts are asked about in one text, so the strings are only borrowed.
+#[derive(Clone, Copy, Debug)]
+pub struct BoundCase<'a> {
+    pub k: u32,
+    pub pattern: &'a [u32],
+    pub text: &'a [u32],
+    pub cap: usize,
+}
+
+pub fn bound(case: &BoundCase, due: &Outcome) -> Result<(), String> {
+    let BoundCase { k, pattern, text, cap } = *case;
+    let null = null(pattern.len() + text.len());
+    let mut hits = Lent::<u32>::new(cap);
+    let (p, t) = (read_from(pattern, null), read_from(text, null));
+    let h = hits.pointer(null);
+    let answer = unsafe { breakwarp_bound(k, p, pattern.len(), t, text.len(), h, cap) };
+    settle(due, answer, &[hits.differs("hits", &due.letters)])
+}
+
+/// The same at one start, where `cap` is the room for the choice.
+pub fn bound_choice(case: &BoundCase, start: usize, due: &Outcome) -> Result<(), String> {
+    let BoundCase { k, pattern, text, cap } = *case;
+    let null = null(pattern.len() + text.len());
+    let mut choice = Lent::<u32>::new(cap);
+    let (p, t) = (read_from(pattern, null), read_from(text, null));
+    let c = choice.pointer(null);
+    let answer = unsafe { breakwarp_bound_choice(k, p, pattern.len(), t, text.len(), start, c, cap) };
+    settle(due, answer, &[choice.differs("choice", &due.letters)])
 }
 
 /// Which way a conversion goes.

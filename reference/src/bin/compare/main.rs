@@ -5,7 +5,9 @@
 //! One line for each group with its number of cases. On a difference the case is printed whole, with exit status 1. Groups
 //! run at the same time, one on each processor: the library may be called by any number of threads at once.
 
+mod bound;
 mod broken;
+mod broken_bound;
 mod cases;
 mod expected;
 mod first;
@@ -71,12 +73,13 @@ struct Group {
     run: fn(&mut Run) -> Told,
 }
 
-const GROUPS: [Group; 10] = [
+const GROUPS: [Group; 11] = [
     Group { name: "exhaustive", run: searches::exhaustive },
     Group { name: "random", run: searches::random },
     Group { name: "limits", run: searches::limits },
     Group { name: "refusals", run: searches::refusals },
     Group { name: "first", run: first::first },
+    Group { name: "bound", run: bound::bound },
     Group { name: "products", run: products::products },
     Group { name: "read", run: sheets::read },
     Group { name: "write", run: sheets::write },

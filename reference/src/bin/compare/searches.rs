@@ -1,4 +1,4 @@
-//! The six searches, and the strings on which the first hit is asked for too.
+//! The six searches, and the strings on which the first hit and the bound mode are asked for too.
 
 use crate::cases::{pair, strings_up_to};
 use crate::library::{self, SearchCase};
@@ -117,7 +117,7 @@ fn strings(run: &mut Run, kind: usize, k: u32, m: usize, n: usize) -> (Vec<u32>,
 }
 
 /// A text of the greatest lengths, on which fewer questions are asked.
-fn long(n: usize) -> bool {
+pub fn long(n: usize) -> bool {
     n > 1000
 }
 

@@ -1,8 +1,7 @@
 -- `choices::joins::pass` meets its contract: the loop joins each pair in turn. Assumes nothing.
 use borrow.Author.Needs.{needs}
 use native.Mathlib.Omega.{arith}
-use mathlib.Core.Path.{_≡_, refl, sym, ap, _∙_}
-use mathlib.Core.Bool.{Bool, _||_}
+use mathlib.Core.Path.{_≡_, refl, sym}
 use Prim.Native.Nat.{_-_, _≤_}
 use Rattle.choices.specs.Candidates.{passed, stirred}
 use Rattle.choices.proofs.JoinLaws.{pass-on}
@@ -21,15 +20,14 @@ loop-holds c = (omega arith, refl, refl)
 
 loop-again : tie.Need-loop-again Inv-loop μ-loop
 loop-again c =
-    let two = c .before .before in
-    let i2 = two .before in
+    let i2 = c .before in
     let one = i2 .before .before .before in
     let i1 = one .before in
     let l = i1 .before .before .before .before in
     let s = l .before in
     let w = l .loop .inv in
-    let r = pass-on (s .args .above .now) (s .args .under .now) (s .args .own .now) (l .loop .j) _ _ _ _ _ _ _ _ (w .2) (w .1) (i1 .index .ensures) (i2 .index2 .ensures) (one .join .ensures) (two .join2 .ensures) in
-    (omega arith, c .either2 .ensures ∙ ap (λ (b : Bool). l .loop .changed || b) (c .before .either .ensures) ∙ r .0, r .1)
+    let r = pass-on (s .args .above .now) (s .args .under .now) (s .args .own .now) (l .loop .j) _ _ _ _ _ _ _ _ (w .2) (w .1) (i1 .index .ensures) (i2 .index2 .ensures) (one .join .ensures) (c .join2 .ensures) in
+    (omega arith, r .0, r .1)
 
 returns : tie.Need-returns Inv-loop μ-loop
 returns c =
@@ -58,8 +56,6 @@ pass-spec =
     (λ c. search needs)
     (λ c κs. search needs)
     join-requires-2
-    (λ c κs. search needs)
-    (λ c κs. search needs)
     (λ c. search needs)
     (λ c. search needs)
     loop-again
