@@ -66,7 +66,8 @@ pub fn low_member(c: u32) -> u32
     lowest(c)
 }
 
-// Tries a start, from the pattern's letters: whether there is a choice. Then the lowest member of each set is the lowest that a choice gives.
+// Tries a start, from the pattern's letters: whether there is a choice. Then the lowest member of each set is the lowest that a choice gives. To find the ties takes m(m - 1) steps at
+// most. There are m passes at most: each carries what a set has lost over one tie at least, and no two tied pairs lie m ties apart.
 pub fn narrow(p: &[u32], t: &[u32], i: usize, own: &mut [u32; Pattern::MAX_M]) -> bool
     requires { do ⌜ SizedPattern (← ⟦Pattern::MAX_M⟧) (now p) × (i + length (now p) ≤ length (now t)) × Fresh (now p) (now own) ⌝ }
     ensures { λ r. ⌜ (r ≡ boundAt (now (p .entry)) (now (t .entry)) i) × (r ≡ true → Lowest (now (p .entry)) (now (t .entry)) i (now (own .exit))) ⌝ }
