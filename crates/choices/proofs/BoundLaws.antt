@@ -1,12 +1,12 @@
 -- Bound-listed starts: the test is the meaning; each is a hit, and where all letters are single each hit is one; the list of them. Assumes nothing.
 use mathlib.Core.Path.{_≡_, refl, sym, ap, _∙_}
-use mathlib.Core.Bool.{Bool, true, false}
+use mathlib.Core.Bool.{true, false}
 use mathlib.Core.List.{List}
 use Prim.Native.Nat.{ℕ, suc, _+_, _-_, _≤_, _<_}
 use native.Mathlib.Omega.{arith}
 use borrow.Author.Tests.{leb-true, le-leb, ne-eqb}
 use lib.ListN.{length, getD}
-use Rattle.letters.specs.Letters.{member, single}
+use Rattle.letters.specs.Letters.{single}
 use Rattle.letters.proofs.Truth.{bool-cases, both-ways, and-true-l, and-true-r}
 use Rattle.letters.proofs.LetterLaws.{member-digit, digit-member, some-meets, single-same}
 use Rattle.hits.specs.Hits.{within, hitAt}
@@ -17,7 +17,7 @@ use Rattle.hits.proofs.MarkLaws.{mark-hit}
 use Rattle.hits.proofs.ScanLaws.{scan-hit}
 use Rattle.hits.proofs.Meaning.{hit-test}
 use Rattle.hits.proofs.StartLaws.{listed-means, means-listed, starts-ascend, only-starts}
-use Rattle.choices.specs.Choices.{Chosen, BoundHit, boundAt, boundHits}
+use Rattle.choices.specs.Choices.{BoundHit, boundAt, boundHits}
 use Rattle.choices.specs.Candidates.{lowMember}
 use Rattle.choices.proofs.ChoiceLaws.{low-member, some-chosen, chosen-some}
 

@@ -1,6 +1,6 @@
 -- All letters have their lowest at once: the minimum of two choices is one, so the lowest of each letter are one too, and what is written is the only such list. Assumes nothing.
-use mathlib.Core.Path.{_≡_, refl, sym, ap, ap₂, _∙_, subst}
-use mathlib.Core.Bool.{Bool, true, false}
+use mathlib.Core.Path.{_≡_, refl, sym, ap, ap₂, _∙_}
+use mathlib.Core.Bool.{true}
 use mathlib.Core.List.{List, [], _∷_, map}
 use mathlib.Core.Logic.{inl, inr, ⊎-elim}
 use Prim.Native.Nat.{ℕ, zero, suc, _+_, _≤_, _<_, min}
@@ -8,10 +8,10 @@ use native.Mathlib.Nat.{eq-or-lt-of-le, le-of-suc-le-suc, le-antisymm, le-refl}
 use native.Mathlib.Omega.{arith}
 use borrow.Author.Tests.{eqb-true, eq-eqb, leb-true, leb-false}
 use lib.Dec.{eqb, leb}
-use lib.ListN.{length, getD}
+use lib.ListN.{length, getD, take}
+use lib.Seq.{take-length}
 use Rattle.letters.specs.Letters.{member}
 use Rattle.letters.proofs.Truth.{bool-cases}
-use Rattle.shifts.specs.Least.{least}
 use Rattle.shifts.proofs.LeastLaws.{least-at, least-low}
 use Rattle.choices.specs.Choices.{Chosen, someChosen, lowestOf, lowestAt}
 use Rattle.choices.proofs.ChoiceLaws.{Stands, member-less, chosen-same, chosen-member, some-chosen, chosen-some}
@@ -22,6 +22,12 @@ min-member a b c x y =
     bool-cases (leb a b)
     (λ t. let l = leb-true a b t in let z : min a b ≡ a = omega arith in rw z x)
     (λ t. let l = leb-false a b t in let z : min a b ≡ b = omega arith in rw z y)
+
+-- what f makes of the front of ys, where it makes of each element what g makes of that of xs
+pub map-each : (f g : ℕ → ℕ) (xs ys : List ℕ) → length xs ≤ length ys → ((j : ℕ) → j < length xs → f (getD ys j 0) ≡ g (getD xs j 0)) → map f (take (length xs) ys) ≡ map g xs
+map-each f g [] ys r h = refl
+map-each f g (x ∷ xs) [] r h = absurd (omega arith)
+map-each f g (x ∷ xs) (y ∷ ys) r h = ap₂ (λ (z : ℕ) (zs : List ℕ). z ∷ zs) (h 0 (omega arith)) (map-each f g xs ys (omega arith) (λ j l. h (suc j) (omega arith)))
 
 module _ (P T : List ℕ) (i : ℕ) where
   -- with two choices their minimum is one
@@ -85,13 +91,10 @@ module _ (P T : List ℕ) (i : ℕ) where
       (λ (e : c ≡ getD T (i + s .0) 0). rw e (sym (lowest-pair g w (s .0) (s .1)) ∙ sym (r .2 (s .0) (s .1)) ∙ r .1 .agree (s .0) (s .1)))
       (s .2))
 
-  map-same : (f g : ℕ → ℕ) (xs : List ℕ) → ((j : ℕ) → j < length xs → f (getD xs j 0) ≡ g (getD xs j 0)) → map f xs ≡ map g xs
-  map-same f g [] h = refl
-  map-same f g (x ∷ xs) h = ap₂ (λ (y : ℕ) (ys : List ℕ). y ∷ ys) (h 0 (omega arith)) (map-same f g xs (λ j l. h (suc j) (omega arith)))
-
   -- what is written is the only list that a choice gives and that no choice goes below at any place
   pub only-lowest : (f : ℕ → ℕ) → Chosen P T i f → ((g : ℕ → ℕ) → Chosen P T i g → (j : ℕ) → j < length P → f (getD P j 0) ≤ g (getD P j 0)) → map f P ≡ lowestAt P T i
   unfolding lowestAt
   only-lowest f w h =
-      map-same f (lowestOf P T i) P
+      ap (map f) (sym (take-length P))
+      ∙ map-each f (lowestOf P T i) P P (le-refl (length P))
       (λ j l. le-antisymm (h (lowestOf P T i) (lowest-chosen f w) j l) (lowest-least f w (getD P j 0) (j, l, inl refl)))

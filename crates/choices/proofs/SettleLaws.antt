@@ -1,9 +1,9 @@
 -- Settled candidates decide: if a set is empty there is no choice, else their lowest members are the lowest choice; and pass after pass they settle. Assumes nothing.
-use mathlib.Core.Path.{_≡_, refl, sym, ap, ap₂, _∙_}
+use mathlib.Core.Path.{_≡_, refl, sym, ap, _∙_}
 use mathlib.Core.Bool.{Bool, true, false, not}
-use mathlib.Core.List.{List, [], _∷_, map}
-use mathlib.Core.Logic.{inl, inr, ⊎-elim}
-use Prim.Native.Nat.{ℕ, suc, _+_, _^_, _≤_, _<_}
+use mathlib.Core.List.{List, map}
+use mathlib.Core.Logic.{inl, ⊎-elim}
+use Prim.Native.Nat.{ℕ, _+_, _^_, _≤_, _<_}
 use native.Mathlib.Nat.{le-antisymm, le-refl}
 use native.Mathlib.Omega.{arith}
 use borrow.Author.Tests.{eqb-true, eq-eqb}
@@ -21,7 +21,7 @@ use Rattle.shifts.proofs.LeastLaws.{least-is, least-low, least-at}
 use Rattle.choices.specs.Choices.{Chosen, someBelow, boundAt, lowestOf, lowestAt}
 use Rattle.choices.specs.Candidates.{Candidates, standsAt, Ties, passed, stirred, Settled, lowMember, Lowest}
 use Rattle.choices.proofs.ChoiceLaws.{low-member, low-least, member-less, below-some, some-below}
-use Rattle.choices.proofs.LowestLaws.{lowest-least, lowest-given}
+use Rattle.choices.proofs.LowestLaws.{map-each, lowest-least, lowest-given}
 use Rattle.choices.proofs.BoundLaws.{test-bound, bound-test}
 use Rattle.choices.proofs.JoinLaws.{sumOf, passed-still, passed-falls}
 use Rattle.choices.proofs.TieLaws.{stands-in, stands-above, stands-under, back-above, back-under, pass-cands, pass-settles}
@@ -104,12 +104,7 @@ module _ (P T : List ℕ) (i : ℕ) (C : List ℕ) where
 -- what is written for a start: the lowest members of its sets
 pub lowest-written : (P T : List ℕ) (i : ℕ) (C : List ℕ) → Lowest P T i C → map lowMember (take (length P) C) ≡ lowestAt P T i
 unfolding lowestAt
-lowest-written P T i C w = same (lowestOf P T i) P C (w .room) (λ j l. w .least j l)
-  where
-    same : (f : ℕ → ℕ) (P C : List ℕ) → length P ≤ length C → ((j : ℕ) → j < length P → lowMember (getD C j 0) ≡ f (getD P j 0)) → map lowMember (take (length P) C) ≡ map f P
-    same f [] C r h = refl
-    same f (x ∷ P) [] r h = absurd (omega arith)
-    same f (x ∷ P) (y ∷ C) r h = ap₂ (λ (z : ℕ) (zs : List ℕ). z ∷ zs) (h 0 (omega arith)) (same f P C (omega arith) (λ j l. h (suc j) (omega arith)))
+lowest-written P T i C w = map-each lowMember (lowestOf P T i) P C (w .room) (w .least)
 
 -- The narrowing of a start, pass after pass; `again` tells whether the last pass changed a set
 pub record Narrowing (P T : List ℕ) (i : ℕ) (A B C : List ℕ) (again : Bool) : Type 0 where

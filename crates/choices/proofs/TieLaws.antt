@@ -1,22 +1,22 @@
 -- Ties: a pair is tied to the first at which its unsure letter stands, and every choice gives both the same. Assumes nothing.
 use mathlib.Core.Path.{_≡_, refl, sym, ap, _∙_}
-use mathlib.Core.Bool.{Bool, true, false, _||_, or-true}
+use mathlib.Core.Bool.{true, false, or-true}
 use mathlib.Core.List.{List}
 use mathlib.Core.Logic.{_⊎_, inl, inr, ⊎-elim}
 use Prim.Native.Nat.{ℕ, zero, suc, _+_, _≤_, _<_}
 use native.Mathlib.Nat.{zero-add}
 use native.Mathlib.Omega.{arith}
-use borrow.Author.Tests.{eqb-true, eq-eqb, leb-true, leb-false}
-use lib.Dec.{eqb, leb}
+use borrow.Author.Tests.{eqb-true, eq-eqb}
+use lib.Dec.{eqb}
 use lib.ListN.{length, getD}
-use Rattle.letters.specs.Letters.{member, shared, single}
-use Rattle.letters.proofs.Truth.{bool-cases, both-ways}
+use Rattle.letters.specs.Letters.{shared, single}
+use Rattle.letters.proofs.Truth.{bool-cases}
 use Rattle.letters.proofs.LetterLaws.{shared-member, member-shared}
 use Rattle.shifts.specs.Least.{least}
 use Rattle.shifts.proofs.LeastLaws.{least-le, least-has, least-first, least-is, least-low}
 use Rattle.choices.specs.Choices.{Chosen}
 use Rattle.choices.specs.Candidates.{Fresh, Candidates, CutBy, standsAt, tieOf, Ties, Backward, joined, passed, stirred, Settled}
-use Rattle.choices.proofs.JoinLaws.{length-joined, length-passed, joined-less, joined-kept, passed-still}
+use Rattle.choices.proofs.JoinLaws.{length-joined, joined-less, joined-kept, passed-still}
 
 module _ (P T : List ℕ) (i : ℕ) where
   -- in P, or under it

@@ -1,5 +1,5 @@
 // One sign, one letter: the sets that the pairs of a start may still be given, narrowed until they say whether there is a choice, and the lowest.
-// No choice is lost on the way, so what is left decides; narrowing pair by pair, once from left to right, would not.
+// No choice is lost on the way, so what is left decides. Narrowing pair by pair, once from left to right (001), does not: `[ab][abc][ab]` over `[abc]ab` would pass.
 use crate::joins::pass;
 use crate::ties::tie_all;
 use letters::letter::common;

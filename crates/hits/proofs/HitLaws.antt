@@ -1,16 +1,12 @@
 -- Laws of hits, and of the hits among some starts. Assumes nothing.
 use mathlib.Core.Path.{_≡_, refl, sym, ap, _∙_}
-use mathlib.Core.Bool.{Bool, true, false, and-false}
+use mathlib.Core.Bool.{true, false, and-false}
 use mathlib.Core.List.{List, [], _++_}
-use mathlib.Core.Logic.{⊎-elim}
-use Prim.Native.Nat.{ℕ, zero, suc, _+_, _≤_, _<_, zero-le}
-use native.Mathlib.Nat.{add-suc, suc-add, zero-add, add-zero, le-refl, eq-or-lt-of-le, le-of-suc-le-suc, not-suc-le-zero}
-use native.Mathlib.Numerals.{add-one}
+use Prim.Native.Nat.{ℕ, zero, suc, _+_, _≤_, _<_}
 use native.Mathlib.Omega.{arith}
 use borrow.Author.Tests.{lt-leb, le-leb, leb-true}
 use lib.Dec.{leb}
-use lib.ListN.{length, getD}
-use Rattle.letters.specs.Letters.{meets}
+use lib.ListN.{length}
 use Rattle.letters.specs.Members.{keep}
 use Rattle.letters.proofs.Truth.{and-true-l, and-true-r}
 use Rattle.hits.specs.Hits.{met, hitAt, startsFrom, hitsFrom, hits}

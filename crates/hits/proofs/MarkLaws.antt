@@ -4,16 +4,16 @@ use mathlib.Core.Bool.{Bool, true, false}
 use mathlib.Core.List.{List, [], _∷_, _++_, map}
 use Prim.Native.Nat.{ℕ, zero, suc, _+_, _-_, _≤_, _<_}
 use native.Mathlib.Omega.{arith}
-use borrow.Author.Tests.{leb-true, leb-false, le-leb, lt-leb}
+use borrow.Author.Tests.{leb-true, leb-false}
 use lib.Dec.{leb}
 use lib.ListN.{length, getD, length-append, List·getD-append}
 use lib.Seq.{getD-append-seam, getD-append-add}
 use Rattle.letters.specs.Letters.{meets}
 use Rattle.letters.specs.Members.{keep}
 use Rattle.letters.proofs.LetterLaws.{none-meets}
-use Rattle.letters.proofs.Truth.{bool-cases, both-ways}
-use Rattle.hits.specs.Hits.{met, hitAt, startsFrom, hitsFrom, hits}
-use Rattle.hits.proofs.MetLaws.{meetsAt, met-same}
+use Rattle.letters.proofs.Truth.{bool-cases}
+use Rattle.hits.specs.Hits.{hitAt, startsFrom, hitsFrom, hits}
+use Rattle.hits.proofs.MetLaws.{met-same}
 use Rattle.hits.proofs.HitLaws.{hit-is, no-hit, no-hit-past, from-add}
 
 module _ (P T : List ℕ) (i : ℕ) where

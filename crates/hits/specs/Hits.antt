@@ -10,7 +10,7 @@
 -- A letter that is not there is read as 0, which meets nothing.
 use Prim.Native.Nat.{ℕ, zero, suc, _+_}
 use mathlib.Core.Bool.{Bool, true, _&&_}
-use mathlib.Core.List.{List, [], _∷_}
+use mathlib.Core.List.{List, []}
 use lib.Dec.{leb}
 use lib.ListN.{length, getD}
 use Rattle.letters.specs.Letters.{meets}

@@ -10,7 +10,7 @@ use lib.Dec.{leb, ltb}
 use lib.ListN.{length, getD}
 use Rattle.letters.specs.Members.{keep}
 use Rattle.letters.proofs.Truth.{bool-cases, and-true-r}
-use Rattle.hits.specs.Hits.{hitAt, hits, startsFrom, hitsFrom}
+use Rattle.hits.specs.Hits.{hitAt, hits, startsFrom}
 use Rattle.hits.specs.Turns.{Turn, Run, idle, run}
 use Rattle.hits.proofs.RunLaws.{Sound, Fair, run-stop, run-on, finds-all, bounded}
 use Rattle.word.specs.State.{Means}

@@ -3,7 +3,6 @@ use Prim.Native.Nat.{ℕ}
 use mathlib.Core.Bool.{true, false}
 use mathlib.Core.List.{List, [], _∷_, _++_}
 use lib.ListN.{replicate}
-use Rattle.inputs.specs.declared.refusal.Answer.{Answer}
 use Rattle.inputs.specs.declared.refusal.Answer.the-variants.{Found, Refused}
 use Rattle.inputs.specs.declared.refusal.Written.the-variants.{Wrote, Refused as WriteRefused}
 use Rattle.engines.specs.declared.engine.Engine.{Engine}

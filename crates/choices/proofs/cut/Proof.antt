@@ -3,7 +3,7 @@ use borrow.Author.Needs.{needs}
 use native.Mathlib.Omega.{arith}
 use mathlib.Core.Path.{ap, _∙_}
 use Prim.Native.Nat.{ℕ, _+_, _-_, _≤_}
-use lib.ListN.{length, getD}
+use lib.ListN.{getD}
 use Rattle.letters.specs.Letters.{shared}
 use Rattle.choices.proofs.FillLaws.{Filled, fill-start, fill-on}
 use Rattle.choices.proofs.cut.Statement.{statement}

@@ -1,5 +1,5 @@
 -- `inputs::checks::placed` meets its contract: the tests that led to a return say which check refuses. Assumes nothing.
-use mathlib.Core.Path.{sym, _∙_}
+use mathlib.Core.Path.{_∙_}
 use native.Mathlib.Omega.{arith}
 use Prim.Native.Nat.{_+_}
 use borrow.Author.Needs.{needs}
