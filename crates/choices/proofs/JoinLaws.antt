@@ -81,15 +81,6 @@ module _ (a j : ℕ) (C : List ℕ) where
         (λ y. let q = eqb-true _ _ y in inr (ap (λ (h : ℕ). getD (set C a (common a j C)) h 0) q ∙ getD-set-same C a (common a j C) 0 la, sym q))
         (λ n. inl (getD-set-other C a j (common a j C) 0 (eqb-false _ _ n)))
 
-    pub joined-sum : sumOf (joined a j C) ≤ sumOf C
-    unfolding joined shared
-    joined-sum =
-        let u = sum-set C a (common a j C) la in
-        let v = sum-set (set C a (common a j C)) j (common a j C) (lt-length-set C a (common a j C) lj) in
-        let x = and-le-l (getD C a 0) (getD C j 0) in
-        let y = and-le-r (getD C a 0) (getD C j 0) in
-        ⊎-elim (λ (q : getD (set C a (common a j C)) j 0 ≡ getD C j 0). omega arith) (λ w. let q = w .0 in omega arith) second
-
     pub joined-falls : differs a j C ≡ true → sumOf (joined a j C) < sumOf C
     unfolding joined shared
     joined-falls e =
@@ -103,6 +94,9 @@ module _ (a j : ℕ) (C : List ℕ) where
         ⊎-elim (λ (z : common a j C ≡ getD C a 0). ⊎-elim (λ (t : common a j C ≡ getD C j 0). absurd (n (sym z ∙ t))) (λ (t : common a j C < getD C j 0). omega arith) (eq-or-lt-of-le y)) (λ (z : common a j C < getD C a 0). omega arith) (eq-or-lt-of-le x))
         (λ w. absurd (n (ap (λ (h : ℕ). getD C h 0) (w .1))))
         second
+
+    pub joined-sum : sumOf (joined a j C) ≤ sumOf C
+    joined-sum = bool-cases (differs a j C) (λ y. omega (arith, joined-falls y)) (λ n. rw (joined-same n) (le-refl (sumOf C)))
 
 module _ (A B : List ℕ) (C : List ℕ) where
   pub length-passed : (h : ℕ) → length (passed A B h C) ≡ length C

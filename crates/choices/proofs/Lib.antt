@@ -1,7 +1,6 @@
 pub mod ChoiceLaws
 pub mod LowestLaws
 pub mod BoundLaws
-pub mod FillLaws
 pub mod JoinLaws
 pub mod TieLaws
 pub mod SettleLaws

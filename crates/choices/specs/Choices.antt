@@ -6,12 +6,12 @@
 --
 -- The same as tests, by trying every choice for the letters that stand there:
 --
---   chosen P T i f    the test whether f is such a choice
+--   chosen P T i f      the test whether f is such a choice
 --   someChosen P T i b  such a choice passes the test b
---   boundAt P T i     start i is bound-listed
---   boundHits P T     all of those starts, ascending
---   lowestOf P T i c  the least base letter that such a choice gives to c
---   lowestAt P T i    the same for each letter of P: what is written for a start
+--   boundAt P T i       start i is bound-listed
+--   boundHits P T       all of those starts, ascending
+--   lowestOf P T i c    the least base letter that such a choice gives to c
+--   lowestAt P T i      the same for each letter of P: what is written for a start
 use Prim.Native.Nat.{ℕ, zero, suc, _+_, _≤_, _<_}
 use mathlib.Core.Path.{_≡_}
 use mathlib.Core.Bool.{Bool, true, cond, _&&_}

@@ -14,8 +14,8 @@ ghost use Rattle.letters.specs.Sizes.{SizedPattern};
 ghost use Rattle.choices.specs.Choices.{someBelow, boundAt};
 ghost use Rattle.choices.specs.Candidates.{Fresh, CutBy, lowMember, Lowest};
 
-pub mod joins;
-pub mod ties;
+mod joins;
+mod ties;
 
 // The letters of the pattern: what its pairs may be given before a start is tried.
 pub fn letters_of(p: &[u32]) -> [u32; Pattern::MAX_M]

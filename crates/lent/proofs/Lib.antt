@@ -1,3 +1,4 @@
 pub mod OverLaws
 pub mod StoreLaws
 pub mod MapLaws
+pub mod FillLaws

@@ -23,25 +23,6 @@ set-at s k l here other = ⊎-elim here other (eq-or-lt-of-le (below l))
     below : k < s + 1 → k ≤ s
     below l = omega arith
 
--- an array of n whose entries 1 to s - 1 are those of F, on the way to m
-pub record Filled (n m : ℕ) (F : ℕ → ℕ) (out : List ℕ) (s : ℕ) : Type 0 where
-  pub long : length out ≡ n
-  pub low : 0 < s
-  pub top : s ≤ m + 1
-  pub right : (k : ℕ) → 0 < k → k < s → getD out k 0 ≡ F k
-
-pub filled-on : {n m : ℕ} {F : ℕ → ℕ} {out : List ℕ} {s : ℕ} → Filled n m F out s → s ≤ m → m < n → (r : ℕ) → r ≡ F s → Filled n m F (set out s r) (s + 1)
-filled-on {n} {m} {F} {out} {s} q l u r e =
-    record {
-      long = length-set out s r ∙ q .long;
-      low = omega arith;
-      top = omega arith;
-      right = λ k a b.
-          set-at s k b
-          (λ y. rw y (getD-set-same out s r 0 (omega (arith, q .long)) ∙ e))
-          (λ y. getD-set-other out s k r 0 (λ z. omega arith) ∙ q .right k a y);
-    }
-
 abbrev pub enough : List ℕ → ℕ → ℕ → Bool
 enough far h x = leb h (getD far x 0)
 
