@@ -69,6 +69,7 @@ bench: $(LIB)
 	@{ $(BENCH)/bench-0 && \
 	  for pad in 16 32 48; do echo; echo "moved by $$pad bytes, before alignment"; $(BENCH)/bench-$$pad means || exit 1; done && \
 	  $(BENCH)/bench-0 grow && echo && \
+	  $(BENCH)/bench-0 walk && echo && \
 	  $(BENCH)/bench-0 first && echo && \
 	  $(BENCH)/bench-0 bound && echo && \
 	  $(BENCH)/reader; } > $(BENCH)/running.txt
@@ -86,12 +87,12 @@ beside: $(LIB)
 	@gcc -E -P bench/engines.c -o $(BENCH)/engines.i.c && $(CC_K) -O3 -c $(BENCH)/engines.i.c -o $(BESIDE)/engines.o
 	@objcopy $(foreach e,$(ENGINES),--redefine-sym c_$(e)=plain_c_$(e)) $(BESIDE)/engines.o
 	@ar p "$(BEFORE)" breakwarp.o > $(BESIDE)/before.o
-	@objcopy --redefine-sym breakwarp_read_sheet=before_read_sheet $(foreach e,$(ENGINES),--redefine-sym breakwarp_$(e)=c_$(e)) $(BESIDE)/before.o
-	@objcopy --keep-global-symbol=before_read_sheet $(foreach e,$(ENGINES),--keep-global-symbol=c_$(e)) $(BESIDE)/before.o
+	@objcopy --redefine-sym breakwarp_read_sheet=before_read_sheet --redefine-sym breakwarp_report=before_report $(foreach e,$(ENGINES),--redefine-sym breakwarp_$(e)=c_$(e)) $(BESIDE)/before.o
+	@objcopy --keep-global-symbol=before_read_sheet --keep-global-symbol=before_report $(foreach e,$(ENGINES),--keep-global-symbol=c_$(e)) $(BESIDE)/before.o
 	@gcc -DPAD=0 -c bench/pad.c -o $(BESIDE)/pad.o && gcc -std=c11 -O2 -Wall -Wextra -c bench/bench.c -o $(BESIDE)/bench.o
 	@gcc -o $(BESIDE)/bench $(BESIDE)/bench.o $(BESIDE)/engines.o $(BESIDE)/before.o $(BESIDE)/pad.o $(LIB)
 	@gcc -std=c11 -O2 -Wall -Wextra -DBESIDE -o $(BESIDE)/reader bench/reader.c $(BESIDE)/before.o $(LIB)
-	@$(BESIDE)/bench && echo && $(BESIDE)/bench first && echo && $(BESIDE)/reader
+	@$(BESIDE)/bench && echo && $(BESIDE)/bench grow && echo && $(BESIDE)/bench walk && echo && $(BESIDE)/bench first && echo && $(BESIDE)/reader
 
 fmt:
 	rt fmt

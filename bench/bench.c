@@ -2,6 +2,7 @@
  *   bench [PASSES]                     compare and time every workload
  *   bench means [PASSES]               the same, but print the mean and the worst of each engine alone
  *   bench grow [PASSES]                how cost grows with n and with m
+ *   bench walk [PASSES]                R at the front of the pattern or nowhere, where its walk is longest; and short texts
  *   bench first [PASSES]               the first hit beside brute and C where there is none, and beside C where it is at start 0
  *   bench bound [PASSES]               the bound list beside brute, and one start of the bound mode at m = 64 at its worst
  *   bench once SIDE ENGINE WORKLOAD    one search and nothing else, for counting instructions; SIDE is lib or c
@@ -291,6 +292,44 @@ static int grow(size_t passes) {
       printf("| %s | %s | %zu | %zu | %.3f | %.3f | %.2f | %llu | %llu | %llu | %.3f |\n", NAME[e], v < 14 ? "names" : "all a", y->n, g[v].m,
              y[0].best, y[1].best, y[0].best / y[1].best, (unsigned long long)s[0], (unsigned long long)s[1], (unsigned long long)s[2],
              (double)(s[0] + s[1] + s[2]) / N);
+    }
+  return 0;
+}
+
+/* R of every text letter is 0, or there is none: b, a .., c in a text all b, and all d. And the names cut into short texts, where what is made of the
+ * pattern beforehand weighs. The three engines that ask for R. */
+static int walk(size_t passes) {
+  static const struct { const char *name; size_t m, n; } kinds[] = {{"R is 0", 8, N}, {"R is 0", 64, N}, {"no R", 8, N}, {"no R", 64, N},
+    {"names", 4, 16}, {"names", 8, 64}, {"names", 8, 256}, {"names", 64, 256}};
+  static const int asks[3] = {2, 3, 5};
+  static struct work g[COUNT(kinds)];
+  static struct cell c[COUNT(kinds) * 6];
+  static uint64_t sum[COUNT(kinds) * 3][3];
+  size_t x = 0;
+  uint32_t *const texts[2] = {same(2), same(8)};
+  for (size_t v = 0; v < COUNT(kinds); v++) {
+    struct work *w = &g[v];
+    *w = works[0];
+    seed = 109;
+    cut(w, 64);
+    if (v < 4) *w = (struct work){.k = 4, .t = texts[v / 2]};
+    w->name = kinds[v].name;
+    w->m = kinds[v].m;
+    for (size_t j = 0; v < 4 && j < w->m; j++) w->p[j] = j == 0 ? 2 : j + 1 < w->m ? 1 : 4;
+    for (int a = 0; a < 3; a++) {
+      compare(w, kinds[v].n, asks[a], sum[v * 3 + (size_t)a]);
+      c[x++] = cell(LIB[asks[a]], w, kinds[v].n);
+      c[x++] = cell(C[asks[a]], w, kinds[v].n);
+    }
+  }
+  measure(c, x, passes);
+  printf("| engine | text | n | m | library ns a letter | C ns a letter | ratio | work a letter | texts |\n|---|---|---|---|---|---|---|---|---|\n");
+  for (size_t a = 0; a < 3; a++)
+    for (size_t v = 0; v < COUNT(kinds); v++) {
+      const struct cell *y = &c[v * 6 + 2 * a];
+      const uint64_t *s = sum[v * 3 + a];
+      printf("| %s | %s | %zu | %zu | %.3f | %.3f | %.2f | %.3f | %zu |\n", NAME[asks[a]], g[v].name, y->n, g[v].m, y[0].best, y[1].best,
+             y[0].best / y[1].best, (double)(s[0] + s[1] + s[2]) / N, N / y->n);
     }
   return 0;
 }
@@ -597,6 +636,7 @@ int main(int argc, char **argv) {
     return 0;
   }
   if (argc > 1 && !strcmp(argv[1], "grow")) return grow(argc > 2 ? (size_t)atol(argv[2]) : 100);
+  if (argc > 1 && !strcmp(argv[1], "walk")) return walk(argc > 2 ? (size_t)atol(argv[2]) : 100);
   if (argc > 1 && !strcmp(argv[1], "first")) return first(argc > 2 ? (size_t)atol(argv[2]) : 150);
   if (argc > 1 && !strcmp(argv[1], "bound")) return bound(argc > 2 ? (size_t)atol(argv[2]) : 150);
   if (argc > 1 && !strcmp(argv[1], "means")) return table(argc > 2 ? (size_t)atol(argv[2]) : 60, 0);

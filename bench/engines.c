@@ -30,19 +30,11 @@ static inline int64_t check(uint32_t k, const uint32_t *p, size_t m, const uint3
   work[0] = scan; work[1] = shift; work[2] = word;           \
   return (int64_t)total;
 
-/* R: the last pattern index for each base letter, -1 if none. */
-static inline void last_table(int32_t last[32], const uint32_t *p, size_t m) {
-  for (int b = 0; b < 32; b++) last[b] = -1;
-  for (size_t j = 0; j < m; j++)
-    for (uint32_t c = p[j]; c; c &= c - 1) last[__builtin_ctz(c)] = (int32_t)j;
-}
-static inline int64_t R(const int32_t last[32], uint32_t c) {
-  int32_t r = -1;
-  for (; c; c &= c - 1) {
-    int32_t l = last[__builtin_ctz(c)];
-    if (l > r) r = l;
-  }
-  return r;
+/* R: the last pattern index whose letter meets c, -1 if none, by a walk from the right end. */
+static inline int64_t R(const uint32_t *p, size_t m, uint32_t c) {
+  size_t h = m;
+  while (h > 0 && !MEET(p[h - 1], c)) h--;
+  return (int64_t)h - 1;
 }
 
 /* The pattern positions that hold each base letter, as bits of a word. */
@@ -118,8 +110,6 @@ ENGINE(c_kmp) {
 
 ENGINE(c_bm) {
   START
-  int32_t last[32];
-  last_table(last, p, m);
   int psingle = 1;
   for (size_t j = 0; j < m; j++) psingle &= !UNSURE(p[j]);
   /* gs[g]: the least s for which the pattern moved by s agrees with its last g letters, from the Z array of the pattern reversed. */
@@ -152,7 +142,7 @@ ENGINE(c_bm) {
     if (g == m) HIT(i);
     else {
       size_t j = m - 1 - g;
-      int64_t d = (int64_t)j - R(last, t[i + j]);
+      int64_t d = (int64_t)j - R(p, m, t[i + j]);
       if (d > 1) s2 = d;
     }
     size_t s;
@@ -176,8 +166,6 @@ ENGINE(c_bm) {
 
 ENGINE(c_sunday) {
   START
-  int32_t last[32];
-  last_table(last, p, m);
   size_t i = 0;
   while (i <= n - m) {
     size_t j = 0;
@@ -188,7 +176,7 @@ ENGINE(c_sunday) {
     }
     if (j == m) HIT(i);
     if (i + m == n) break;
-    i += (size_t)((int64_t)m - R(last, t[i + m]));
+    i += (size_t)((int64_t)m - R(p, m, t[i + m]));
   }
   END
 }
@@ -207,16 +195,14 @@ ENGINE(c_shiftand) {
 
 ENGINE(c_hybrid) {
   START
-  int32_t last[32];
   uint64_t B[32], top = (uint64_t)1 << (m - 1);
-  last_table(last, p, m);
   mask_table(B, p, m);
   size_t a = 0;
   while (a <= n - m) {
     scan++;
     if (!MEET(p[m - 1], t[a + m - 1])) {
       if (a + m == n) break;
-      a += (size_t)((int64_t)m - R(last, t[a + m]));
+      a += (size_t)((int64_t)m - R(p, m, t[a + m]));
       continue;
     }
     uint64_t D = 0;

@@ -22,8 +22,8 @@
  *
  * STACK. Bytes of stack that a call uses, measured on x86-64 by c/stack.c, which runs each call on
  * a thread whose stack was filled with a pattern: report 67,905 (it holds the text and the list of
- * hits of a sheet), kmp 4,152, to_products 2,000, read_sheet 1,713, bound 1,136, bm 1,128,
- * bound_choice 848, hybrid 512, every other call less.
+ * hits of a sheet), kmp 4,152, to_products 2,000, read_sheet 1,713, bound 1,136, bm 1,000,
+ * bound_choice 848, hybrid 384, every other call less.
  */
 #ifndef BREAKWARP_H
 #define BREAKWARP_H
@@ -35,7 +35,7 @@
 extern "C" {
 #endif
 
-#define BREAKWARP_VERSION "1.3"
+#define BREAKWARP_VERSION "1.3.1"
 
 /* Limits. */
 #define BREAKWARP_MAX_K 32            /* base letters */

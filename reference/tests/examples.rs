@@ -293,10 +293,33 @@ fn meeting_is_not_transitive() {
 
 #[test]
 fn the_greatest_over_all_members_counts() {
-    // e stands behind a in the pattern, so a doubt of both is found at e.
-    assert_eq!(r(&aen("aea"), 2), 1);
-    assert_eq!(r(&aen("ane"), 3), 2);
-    assert_eq!(r(&aen("an"), 2), -1);
+    let long: &str = &format!("n{}", "a".repeat(63));
+    let rows = [
+        // Pattern, letter, R.
+        ("aea", "e", 1),
+        ("aea", "a", 2),
+        // Index 0 alone meets.
+        ("nea", "n", 0),
+        ("n", "*", 0),
+        (long, "n", 0),
+        (long, "[en]", 0),
+        ("[an]ee", "[an]", 0),
+        // None meets.
+        ("an", "e", -1),
+        ("a", "[en]", -1),
+        (long, "e", -1),
+        ("a*", "|", -1),
+        (long, "|", -1),
+        // e stands behind a in the pattern, so a doubt of both is found at e, which is not the lowest of them.
+        ("ane", "[ae]", 2),
+        ("aan", "*", 2),
+        // a is the lowest of both and stands behind n.
+        ("nea", "[an]", 2),
+        (long, "[an]", 63),
+    ];
+    for (pattern, letter, due) in rows {
+        assert_eq!(r(&aen(pattern), aen(letter)[0]), due, "{letter} in {pattern}");
+    }
     assert_eq!(hits(&aen("ae"), &aen("a[ae]e")), [0, 1]);
 }
 

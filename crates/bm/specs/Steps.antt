@@ -5,13 +5,12 @@ use mathlib.Core.Bool.{Bool, _&&_}
 use mathlib.Core.List.{List}
 use lib.ListN.{length}
 use Rattle.hits.specs.Singles.{allSingle}
-use Rattle.pattern.specs.Tables.{LastTable, EndShifts}
+use Rattle.pattern.specs.Tables.{EndShifts}
 use Rattle.bm.specs.Bm.{endMet}
 
--- what is worked out from P: its shifts from the end, the last positions of the first K base letters, and whether it is all single
-pub record Readied (K : ℕ) (P by lasts : List ℕ) (whole : Bool) : Type 0 where
+-- what is worked out from P: its shifts from the end, and whether it is all single
+pub record Readied (P by : List ℕ) (whole : Bool) : Type 0 where
   pub ends : EndShifts P by
-  pub last : LastTable K P lasts
   pub single : whole ≡ allSingle P 0 (length P)
 
 -- the scan at start i stopped with `left` letters left; `sure` tells whether P and the text letters that meet are all single

@@ -34,14 +34,13 @@ use shifts::less;
 use shifts::smaller;
 use shifts::try_shifts;
 ghost use mathlib.Core.Path.{_≡_};
-ghost use mathlib.Core.List.{List};
-ghost use Prim.Native.Nat.{ℕ, _+_, _-_, _*_, _≤_, _<_};
+ghost use Prim.Native.Nat.{_+_, _-_, _*_, _≤_, _<_};
 ghost use lib.ListN.{length};
 ghost use Rattle.letters.specs.Sizes.{SizedPattern, Sized};
 ghost use Rattle.hits.specs.Hits.{hits};
 ghost use Rattle.lent.specs.Over.{over};
 ghost use Rattle.hits.specs.Counts.{workOf, turnOf};
-ghost use Rattle.pattern.specs.Tables.{LastTable, EndShifts};
+ghost use Rattle.pattern.specs.Tables.{EndShifts};
 ghost use Rattle.inputs.specs.Answers.{Searched, scanOf, shiftOf};
 ghost use Rattle.bm.specs.Bm.{firstShift, firstTests, failShift, bmTurn, bmRun};
 ghost use Rattle.bm.specs.Steps.{Readied, Stopped};
@@ -71,24 +70,17 @@ fn first_shift(
 }
 
 // The shift after a failure at letter j.
-fn fail_shift(t: &[u32], lasts: &[u32; Letter::MAX_K as usize], i: usize, j: usize) -> usize
+fn fail_shift(p: &[u32], t: &[u32], i: usize, j: usize) -> usize
     requires { ⌜ i + j < length (now t) ⌝ }
-    ensures { λ r. do K ← ⟦Letter::MAX_K⟧ .entry; ⌜ ((P : List ℕ) → LastTable K P (now (lasts .entry)) → r ≡ failShift P (now (t .entry)) i j) ⌝ }
+    ensures { λ r. ⌜ r ≡ failShift (now (p .entry)) (now (t .entry)) i j ⌝ }
 {
-    let r = after_r(lasts, t[i + j]);
+    let r = after_r(p, t[i + j]);
     larger(1, less(j + 1, r))
 }
 
 // A turn at start i.
-fn step(
-    p: &[u32],
-    t: &[u32],
-    by: &[u32; Pattern::MAX_M + 1],
-    lasts: &[u32; Letter::MAX_K as usize],
-    whole: bool,
-    i: usize,
-) -> Turned
-    requires { do ⌜ SizedPattern (← ⟦Pattern::MAX_M⟧) (now p) × Readied (← ⟦Letter::MAX_K⟧) (now p) (now by) (now lasts) whole × (i + length (now p) ≤ length (now t)) ⌝ }
+fn step(p: &[u32], t: &[u32], by: &[u32; Pattern::MAX_M + 1], whole: bool, i: usize) -> Turned
+    requires { do ⌜ SizedPattern (← ⟦Pattern::MAX_M⟧) (now p) × Readied (now p) (now by) whole × (i + length (now p) ≤ length (now t)) ⌝ }
     ensures { λ r. ⌜ turnOf i r ≡ bmTurn (now (p .entry)) (now (t .entry)) i ⌝ }
 {
     let m = p.len();
@@ -97,7 +89,7 @@ fn step(
     if left == m {
         return Turned {
             hit: false,
-            next: i + fail_shift(t, lasts, i, m - 1),
+            next: i + fail_shift(p, t, i, m - 1),
             scan: 1,
             shift: 0,
         };
@@ -111,7 +103,7 @@ fn step(
             shift: a.tests,
         };
     }
-    let s = fail_shift(t, lasts, i, left - 1);
+    let s = fail_shift(p, t, i, left - 1);
     Turned {
         hit: false,
         next: i + larger(a.by, s),
@@ -129,7 +121,6 @@ fn run(p: &[u32], t: &[u32], list: &mut [u32]) -> Work
     let n = t.len();
     let q = Prepared::new(p);
     let shifts = Shifts::from_end(p);
-    let lasts = q.lasts;
     let by = shifts.by;
     let whole = m <= q.sure;
     let mut i = 0;
@@ -137,7 +128,7 @@ fn run(p: &[u32], t: &[u32], list: &mut [u32]) -> Work
     let mut scan: u64 = 0;
     let mut shift: u64 = 0;
     while i + m <= n {
-        let s = step(p, t, &by, &lasts, whole, i);
+        let s = step(p, t, &by, whole, i);
         total = note(list, total, i, s.hit);
         scan += s.scan;
         shift += s.shift;

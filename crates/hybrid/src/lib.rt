@@ -3,7 +3,7 @@
 // Its source is 002, W. F. Smyth and Shu Wang, An Adaptive Hybrid Pattern-Matching Algorithm on Indeterminate Strings: figure 1, with figure 5 for the shift and figure 6 for the word steps.
 // Departures from it:
 // 1. Where the pattern's end is the text's end no letter stands behind it, so none is read and the run ends; figure 5 reads one.
-// 2. There is a row and a last position for each base letter alone. Those of a text letter are the union and the greatest of its members', made when the letter is read; figures 3 and 4 hold them for every letter.
+// 2. There is a row for each base letter alone. That of a text letter is the union of its members', made when the letter is read; figure 4 holds one for every letter. There is no table of shifts, as figure 3 makes: the pattern is walked, as Sunday does.
 // 3. What is listed is where a hit starts, and not where it ends.
 pub mod c;
 mod twice;
@@ -16,7 +16,6 @@ use letters::letter::Letter;
 use letters::letter::meet;
 use letters::strings::Pattern;
 use letters::strings::Text;
-use pattern::Prepared;
 use pattern::masks::Masks;
 use sunday::next_start;
 use word::advance;
@@ -29,7 +28,7 @@ ghost use Rattle.letters.specs.Sizes.{SizedPattern, Sized};
 ghost use Rattle.hits.specs.Hits.{hits};
 ghost use Rattle.lent.specs.Over.{over};
 ghost use Rattle.hits.specs.Counts.{workOf};
-ghost use Rattle.pattern.specs.Tables.{LastTable, MaskTable};
+ghost use Rattle.pattern.specs.Tables.{MaskTable};
 ghost use Rattle.inputs.specs.Answers.{Searched, scanOf, stepsOf};
 ghost use Rattle.hybrid.specs.Stretches.{stretch};
 ghost use Rattle.hybrid.specs.Hybrid.{stretched, hybridTurn, hybridRun, HybridTurns};
@@ -86,13 +85,12 @@ fn ran(a: usize, e: usize, total: usize) -> HybridTurned
 fn step(
     p: &[u32],
     rows: &[u64; Letter::MAX_K as usize],
-    lasts: &[u32; Letter::MAX_K as usize],
     t: &[u32],
     a: usize,
     list: &mut [u32],
     total: usize,
 ) -> HybridTurned
-    requires { do ⌜ SizedPattern (← ⟦Pattern::MAX_M⟧) (now p) × (total + length (now t) < 2 ^ 32) × (a + length (now p) ≤ length (now t)) × MaskTable (← ⟦Letter::MAX_K⟧) (now p) (now rows) × LastTable (← ⟦Letter::MAX_K⟧) (now p) (now lasts) ⌝ }
+    requires { do ⌜ SizedPattern (← ⟦Pattern::MAX_M⟧) (now p) × (total + length (now t) < 2 ^ 32) × (a + length (now p) ≤ length (now t)) × MaskTable (← ⟦Letter::MAX_K⟧) (now p) (now rows) ⌝ }
     ensures { λ r. ⌜ HybridTurns (hybridTurn (now (p .entry)) (now (t .entry)) a) (now (list .entry)) total r (now (list .exit)) ⌝ }
 {
     let m = p.len();
@@ -100,7 +98,7 @@ fn step(
         return steps_from(p, rows, t, a, list, total);
     }
     HybridTurned {
-        next: next_start(p, t, lasts, a),
+        next: next_start(p, t, a),
         total,
         scan: 1,
         steps: 0,
@@ -116,14 +114,12 @@ fn run(p: &[u32], t: &[u32], list: &mut [u32]) -> Work
     let n = t.len();
     let masks = Masks::of(p);
     let rows = masks.rows;
-    let prepared = Prepared::new(p);
-    let lasts = prepared.lasts;
     let mut a = 0;
     let mut total = 0;
     let mut scan: u64 = 0;
     let mut steps: u64 = 0;
     while a + m <= n {
-        let s = step(p, &rows, &lasts, t, a, list, total);
+        let s = step(p, &rows, t, a, list, total);
         total = s.total;
         scan += s.scan;
         steps += s.steps;

@@ -95,8 +95,14 @@ module _ {by end s h : ℕ} (e : min by end ≡ s) (l : s ≤ h) where
   pub uncut : by ≤ end → (by ≡ s) × (by ≤ h)
   uncut a = omega arith
 
--- to the end: to the first start past the last
-pub first-past : (i m n : ℕ) → i + m ≤ n → n + 1 - m ≡ i + (n + 1 - (m + i))
+-- to the end: to the first start past the last, which lies past i
+pub end-way : (x m i : ℕ) → x - m - i ≡ x - (m + i)
+end-way x m i = omega arith
+
+pub end-past : (i m n : ℕ) → i + m ≤ n → i ≤ n + 1 - m
+end-past i m n l = omega arith
+
+pub first-past : (i m n : ℕ) → i + m ≤ n → n + 1 - m ≡ i + (n + 1 - m - i)
 first-past i m n l = omega arith
 
 pub shift-none : (P T : List ℕ) (i h : ℕ) → h ≡ 0 → (1 ≡ shiftBy P T i h) × (0 ≡ shiftTests P T i h)

@@ -141,8 +141,8 @@ fn step(
     let hit = h == m;
     let scan = (h - r) as u64 + count(h < m);
     let s = shift_by(p, t, by, sure, i, h, v);
-    // A branch, and not the smaller of the two: the next start need not wait for it.
-    let end = t.len() + 1 - (m + i);
+    // A branch, and not the smaller of the two: the next start need not wait for it. By m and then by i, so that their sum need not be kept.
+    let end = t.len() + 1 - m - i;
     if end < s.by {
         return KmpTurned {
             hit,
@@ -170,10 +170,11 @@ fn run(p: &[u32], t: &[u32], list: &mut [u32]) -> Work
 {
     let m = p.len();
     let n = t.len();
-    let pattern = Prepared::new(p);
-    let sure = pattern.sure;
+    // In this order the compiler keeps more of what a start needs in registers (docs/SPEED.md).
     let shifts = Shifts::from_front(p);
     let by = shifts.by;
+    let pattern = Prepared::new(p);
+    let sure = pattern.sure;
     let mut i = 0;
     let mut r = 0;
     let mut u = 0;

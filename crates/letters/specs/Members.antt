@@ -4,9 +4,8 @@
 --   membersFrom c b f      the members of c among the f base letters from b on
 --   members k c            the members of c in an alphabet of k
 --   walked step s bs       what becomes of s by a step at each of these places in turn
---   greatestOf tab bs      the greatest entry of a table at these places, 0 if there is none
---   unionOf tab bs         the union of its entries at these places
-use Prim.Native.Nat.{ℕ, zero, suc, max}
+--   unionOf tab bs         the union of a table's entries at these places
+use Prim.Native.Nat.{ℕ, zero, suc}
 use mathlib.Core.Bool.{Bool, true, false}
 use mathlib.Core.List.{List, [], _∷_}
 use lib.Bits.{bitOr}
@@ -27,9 +26,6 @@ members k c = membersFrom c 0 k
 unfoldable pub walked : {S : Type 0} → (S → ℕ → S) → S → List ℕ → S
 walked step s [] = s
 walked step s (b ∷ bs) = walked step (step s b) bs
-
-abbrev pub greatestOf : List ℕ → List ℕ → ℕ
-greatestOf tab bs = walked (λ best b. max best (getD tab b 0)) 0 bs
 
 abbrev pub unionOf : List ℕ → List ℕ → ℕ
 unionOf tab bs = walked (λ all b. bitOr all (getD tab b 0)) 0 bs

@@ -1,10 +1,10 @@
 // The loop over a letter's members, from the lowest set bit upward.
 use crate::letter::Letter;
 ghost use mathlib.Core.Path.{_≡_};
-ghost use Prim.Native.Nat.{_-_, max};
+ghost use Prim.Native.Nat.{_-_};
 ghost use lib.Bits.{bitAnd};
 ghost use lib.Count.{trailingZeros};
-ghost use Rattle.letters.specs.Members.{members, greatestOf, unionOf};
+ghost use Rattle.letters.specs.Members.{members, unionOf};
 
 // The lowest member; the width if there is none.
 pub fn lowest(c: u32) -> u32
@@ -21,26 +21,6 @@ pub fn rest(c: u32) -> u32
         return 0;
     }
     c & (c - 1)
-}
-
-fn greater(a: u32, b: u32) -> u32
-    ensures { λ r. ⌜ r ≡ max a b ⌝ }
-{
-    if a < b { b } else { a }
-}
-
-// The greatest entry of a table over the members of c, 0 if there is none.
-pub fn greatest(tab: &[u32; Letter::MAX_K as usize], c: u32) -> u32
-    ensures { λ r. do ⌜ r ≡ greatestOf (now (tab .entry)) (members (← ⟦Letter::MAX_K⟧ .entry) c) ⌝ }
-{
-    let mut left = c;
-    let mut best: u32 = 0;
-    while left != 0 {
-        let b = lowest(left) as usize;
-        best = greater(best, tab[b]);
-        left = rest(left);
-    }
-    best
 }
 
 // The union of a table's rows over the members of c.

@@ -26,8 +26,7 @@ use Rattle.shifts.specs.Least.{least}
 use Rattle.hits.specs.Hits.{met}
 use Rattle.shifts.specs.Shift.{covers, selfFit}
 use Rattle.shifts.proofs.LeastLaws.{least-room}
-use Rattle.pattern.specs.Last.{afterR}
-use Rattle.pattern.specs.Tables.{tableFrom, table, notSingle, surePrefix, lastTable, maskIn, maskTable, shiftTable, frontShifts, endShifts, LastTable, MaskTable, FrontShifts, EndShifts}
+use Rattle.pattern.specs.Tables.{tableFrom, table, notSingle, surePrefix, maskIn, maskTable, shiftTable, frontShifts, endShifts, MaskTable, FrontShifts, EndShifts}
 use Rattle.pattern.proofs.PowerLaws.{power-self, power-other}
 
 -- a table by its entries
@@ -54,11 +53,6 @@ is-table n f l e h = ext-getD 0 l (table n f) (e ∙ sym (from-length f 0 n)) (�
 pub same-table : (n : ℕ) (f g : ℕ → ℕ) → ((b : ℕ) → b < n → f b ≡ g b) → table n f ≡ table n g
 unfolding table
 same-table n f g h = is-table n g (table n f) (from-length f 0 n) (λ b l. at-table f n b l ∙ h b l)
-
--- the last positions
-pub last-table : (K : ℕ) (P tab : List ℕ) → tab ≡ lastTable K P → LastTable K P tab
-unfolding lastTable
-last-table K P tab e b l = ap (λ (x : List ℕ). getD x b 0) e ∙ at-table (λ b. afterR P (2 ^ b)) K b l
 
 -- the masks, letter by letter and digit by digit
 module _ (P : List ℕ) where

@@ -3,15 +3,13 @@ use mathlib.Core.Path.{_≡_, refl, sym, ap, _∙_}
 use mathlib.Core.Bool.{true, false}
 use mathlib.Core.Logic.{⊎-elim}
 use mathlib.Core.List.{List}
-use Prim.Native.Nat.{ℕ, zero, suc, _≤_, _<_, zero-le}
+use Prim.Native.Nat.{ℕ, zero, suc, _-_, _≤_, _<_, zero-le}
 use native.Mathlib.Nat.{eq-or-lt-of-le, le-of-suc-le-suc}
 use native.Mathlib.Omega.{arith}
-use borrow.Author.Tests.{leb-true, leb-false}
-use lib.Dec.{leb}
 use lib.ListN.{length, getD}
 use Rattle.letters.specs.Letters.{meets}
 use Rattle.letters.proofs.LetterLaws.{none-meets}
-use Rattle.letters.proofs.Truth.{bool-cases, both-ways}
+use Rattle.letters.proofs.Truth.{bool-cases}
 use Rattle.pattern.specs.Last.{lastIn, afterR}
 
 module _ (P : List ℕ) (c : ℕ) where
@@ -47,13 +45,6 @@ module _ (P : List ℕ) (c : ℕ) where
       bool-cases (meets (getD P h 0) c)
       (λ e. absurd (let z = last-yes h e in omega arith))
       (λ e. let z = last-no h e in ⊎-elim (λ (q : j ≡ h). rw q e) (λ (q : j < h). last-above h j (omega arith) q) (eq-or-lt-of-le (le-of-suc-le-suc k)))
-
-  -- a letter that meets c stands below it
-  pub last-ge : (h j : ℕ) → j < h → meets (getD P j 0) c ≡ true → suc j ≤ lastIn P c h
-  last-ge h j l y =
-      bool-cases (leb (suc j) (lastIn P c h))
-      (λ e. leb-true _ _ e)
-      (λ e. let q : lastIn P c h < suc j = leb-false _ _ e in absurd (both-ways (meets (getD P j 0) c) y (last-above h j (omega arith) l)))
 
   -- The meaning of R(c) + 1: it is j + 1 exactly if P[j] meets c and no letter above does
   pub r-at : (j : ℕ) → afterR P c ≡ suc j → (j < length P) × (meets (getD P j 0) c ≡ true) × ((i : ℕ) → j < i → i < length P → meets (getD P i 0) c ≡ false)
@@ -92,3 +83,22 @@ module _ (P : List ℕ) (c : ℕ) where
 -- an entry mark has none
 pub r-mark : (P : List ℕ) → afterR P 0 ≡ 0
 r-mark P = none-r P 0 (λ i l. none-meets (getD P i 0))
+
+-- A walk from the right end that has come to where h letters are left: none that it passed meets c, so they have the last that does
+pub record CameDown (P : List ℕ) (c h : ℕ) : Type 0 where
+  pub same : afterR P c ≡ lastIn P c h
+
+pub down-start : (P : List ℕ) (c : ℕ) → CameDown P c (length P - 0)
+unfolding afterR
+down-start P c = let z : length P - 0 ≡ length P = omega arith in record { same = rw z }
+
+module _ {P : List ℕ} {c h : ℕ} (w : CameDown P c h) where
+  module _ (some : 0 < h) where
+    pub down-here : meets (getD P (h - 1) 0) c ≡ true → h ≡ afterR P c
+    down-here y = let z : suc (h - 1) ≡ h = omega arith in sym (w .same ∙ rw z at (last-yes P c (h - 1) y))
+
+    pub down-on : meets (getD P (h - 1) 0) c ≡ false → (x : ℕ) → x ≡ h - 1 → CameDown P c x
+    down-on n x e = let z : suc (h - 1) ≡ h = omega arith in record { same = rw e (w .same ∙ rw z at (last-no P c (h - 1) n)) }
+
+  pub down-end : h ≡ 0 → 0 ≡ afterR P c
+  down-end z = sym (w .same ∙ ap (lastIn P c) z ∙ last-start P c)

@@ -4,6 +4,5 @@ pub mod EntryLaws
 pub mod GrowLaws
 pub mod MostLaws
 pub mod MaskLaws
-pub mod LastTable
 pub mod TableLaws
 pub mod ShiftTable

@@ -1,4 +1,4 @@
--- The greatest value over the members of a letter: R from its table, and the digits of a union of rows. Assumes nothing.
+-- The greatest value over the members of a letter, which each digit of a union of rows is. Assumes nothing.
 use mathlib.Core.Path.{_≡_, refl, ap, _∙_}
 use mathlib.Core.Bool.{true}
 use mathlib.Core.List.{List, [], _∷_}

@@ -1,4 +1,4 @@
--- A letter with one member, as a power: its digits, and what meets it. Assumes nothing.
+-- The digits of a power: one place, as a word holds it. Assumes nothing.
 use mathlib.Core.Path.{_≡_, refl, sym, ap, _∙_}
 use Prim.Native.Nat.{ℕ, zero, suc, _*_, _/_, _%_, _^_, _≤_, _<_}
 use native.Mathlib.Nat.{pow-suc, one-mul, mod-eq-of-lt, lt-of-lt-of-le}
@@ -8,10 +8,7 @@ use lib.ListN.{length}
 use lib.Pow.{pow-lt}
 use Rattle.letters.specs.Sizes.{SizedPattern}
 use Rattle.letters.specs.Digits.{digit}
-use Rattle.letters.specs.Letters.{member, meets}
-use Rattle.letters.proofs.Truth.{same-test}
 use Rattle.letters.proofs.DigitLaws.{digit-zero, digit-lt}
-use Rattle.letters.proofs.LetterLaws.{member-digit, digit-member, meets-some, some-meets}
 
 pub power-self : (i : ℕ) → digit i (2 ^ i) ≡ 1
 unfolding digit
@@ -30,15 +27,6 @@ power-only (suc i) (suc j) h =
 
 pub power-other : (i j : ℕ) → (j ≡ i → ⊥) → digit j (2 ^ i) ≡ 0
 power-other i j n = let l = digit-lt j (2 ^ i) in let o : (digit j (2 ^ i) ≡ 1 → ⊥) = (λ q. n (power-only i j q)) in omega arith
-
--- a letter meets a lone base letter exactly if it has that member
-pub meets-lone : (x b : ℕ) → meets x (2 ^ b) ≡ member b x
-meets-lone x b =
-    same-test (meets x (2 ^ b)) (member b x)
-    (λ y. let w = meets-some x (2 ^ b) y in
-    let e = power-only b (w .0) (member-digit (w .0) (2 ^ b) (w .2)) in
-    ap (λ (a : ℕ). member a x) (sym e) ∙ w .1)
-    (λ y. some-meets x (2 ^ b) b y (digit-member b (2 ^ b) (power-self b)))
 
 -- the place of letter h, as code shifts it: a word has room for each
 pub place-word : {M : ℕ} {P : List ℕ} → SizedPattern M P → (h : ℕ) → h < length P → 2 ^ M ≤ 2 ^ 64 → 1 * 2 ^ h % 2 ^ 64 ≡ 2 ^ h

@@ -2,13 +2,11 @@
 --
 --   table n f           the n numbers f 0, f 1, ..
 --   surePrefix P        the length of P's longest prefix of single letters
---   lastTable K P       for each of the first K base letters b, R({b}) + 1
 --   maskIn P b h        the places among P's first h whose letters have b, as a number: digit j stands for place j
 --   maskTable K P       for each of the first K base letters its row of places
 --   shiftTable M m b    for each h up to m the least s from 1 to m with b h s; 1 above, to M
 --   frontShifts M P     for each h the least shift of P by which its first h letters meet P itself, as far as it still covers them
 --   endShifts M P       for each g the same for its last g letters
---   LastTable K P tab   tab has the entries of lastTable, whatever stands above them
 --   MaskTable K P rows  place j of row b has the digit that P's letter j has at b
 --   FrontShifts P tab   tab has the least shifts of P's beginnings
 --   EndShifts P tab     and of its ends
@@ -24,7 +22,6 @@ use Rattle.letters.specs.First.{firstWith}
 use Rattle.letters.specs.Letters.{member, single}
 use Rattle.shifts.specs.Least.{least}
 use Rattle.shifts.specs.Shift.{selfFit}
-use Rattle.pattern.specs.Last.{afterR}
 
 unfoldable pub tableFrom : ℕ → ℕ → (ℕ → ℕ) → List ℕ
 tableFrom a zero f = []
@@ -39,9 +36,6 @@ notSingle c = not (single c)
 
 unfoldable pub surePrefix : List ℕ → ℕ
 surePrefix P = firstWith notSingle P
-
-unfoldable pub lastTable : ℕ → List ℕ → List ℕ
-lastTable K P = table K (λ b. afterR P (2 ^ b))
 
 unfoldable pub maskIn : List ℕ → ℕ → ℕ → ℕ
 maskIn P b zero = 0
@@ -58,9 +52,6 @@ frontShifts M P = shiftTable M (length P) (λ h. selfFit P 0 h)
 
 unfoldable pub endShifts : ℕ → List ℕ → List ℕ
 endShifts M P = shiftTable M (length P) (λ g. selfFit P (length P - g) (length P))
-
-abbrev pub LastTable : ℕ → List ℕ → List ℕ → Type 0
-LastTable K P tab = (b : ℕ) → b < K → getD tab b 0 ≡ afterR P (2 ^ b)
 
 abbrev pub MaskTable : ℕ → List ℕ → List ℕ → Type 0
 MaskTable K P rows = (b j : ℕ) → b < K → digit j (getD rows b 0) ≡ digit b (getD P j 0)

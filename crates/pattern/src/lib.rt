@@ -1,17 +1,9 @@
-// The prepared pattern: what is worked out from its letters before the text is looked at.
-use letters::letter::Letter;
+// The prepared pattern: what is worked out from its letters before the text is looked at. And R, which is found when it is asked for.
 use letters::letter::lone;
-use letters::members::greatest;
-use letters::members::lowest;
-use letters::members::rest;
-use letters::width::index;
+use letters::letter::meet;
 ghost use mathlib.Core.Path.{_≡_};
-ghost use mathlib.Core.List.{List};
-ghost use Prim.Native.Nat.{ℕ, _^_, _<_};
-ghost use lib.ListN.{length, set};
-ghost use Rattle.letters.specs.Members.{members, walked};
 ghost use Rattle.pattern.specs.Last.{afterR};
-ghost use Rattle.pattern.specs.Tables.{LastTable, surePrefix, lastTable};
+ghost use Rattle.pattern.specs.Tables.{surePrefix};
 
 pub mod masks;
 pub mod tables;
@@ -19,18 +11,14 @@ pub mod tables;
 pub struct Prepared {
     // the length of the longest prefix of single letters
     pub sure: usize,
-    // for each base letter, one more than the last index of a letter that has it
-    pub lasts: [u32; Letter::MAX_K as usize],
 }
 
 impl Prepared {
     pub fn new(p: &[u32]) -> Self
-        requires { ⌜ length (now p) < 2 ^ 32 ⌝ }
-        ensures { λ r. do ⌜ (r .sure ≡ surePrefix (now (p .entry))) × (r .lasts ≡ lastTable (← ⟦Letter::MAX_K⟧ .entry) (now (p .entry))) ⌝ }
+        ensures { λ r. ⌜ r .sure ≡ surePrefix (now (p .entry)) ⌝ }
     {
         let sure = sure_of(p);
-        let lasts = lasts_of(p);
-        Self { sure, lasts }
+        Self { sure }
     }
 }
 
@@ -48,35 +36,22 @@ fn sure_of(p: &[u32]) -> usize
     j
 }
 
-// Stores v at each member of c.
-fn store(tab: &mut [u32; Letter::MAX_K as usize], c: u32, v: u32)
-    ensures { λ _. do ⌜ now (tab .exit) ≡ walked (λ x b. set x b v) (now (tab .entry)) (members (← ⟦Letter::MAX_K⟧ .entry) c) ⌝ }
+// R(c) + 1, by a walk from the right end to the first letter that meets c; 0 if none does, as with an entry mark. No table is held for it.
+//
+// A walk looks at m - R(c) letters, or at all m if none meets. In Sunday and Hybrid that is at most the shift that it gives, and the starts
+// that are shifted from lie within the text, so all walks of a search look at n letters at most. In BM, where letter j fails after g others
+// met, m - R is j - R and g + 1 more: the shift, if R lies left of j, and the tests of that scan; else it is less than those tests alone.
+pub fn after_r(p: &[u32], c: u32) -> usize
+    ensures { λ r. ⌜ r ≡ afterR (now (p .entry)) c ⌝ }
 {
-    let mut left = c;
-    while left != 0 {
-        let b = lowest(left) as usize;
-        tab[b] = v;
-        left = rest(left);
+    let mut passed = 0;
+    while passed < p.len() {
+        let h = p.len() - passed;
+        let j = h - 1;
+        if meet(p[j], c) {
+            return h;
+        }
+        passed += 1;
     }
-}
-
-// The last positions, by one pass over the letters.
-fn lasts_of(p: &[u32]) -> [u32; Letter::MAX_K as usize]
-    requires { ⌜ length (now p) < 2 ^ 32 ⌝ }
-    ensures { λ r. do ⌜ r ≡ lastTable (← ⟦Letter::MAX_K⟧ .entry) (now (p .entry)) ⌝ }
-{
-    let mut tab = [0u32; Letter::MAX_K as usize];
-    let mut j: usize = 0;
-    while j < p.len() {
-        store(&mut tab, p[j], (j + 1) as u32);
-        j += 1;
-    }
-    tab
-}
-
-// R(c) + 1, from the last positions: the greatest over the members of c.
-pub fn after_r(lasts: &[u32; Letter::MAX_K as usize], c: u32) -> usize
-    ensures { λ r. do K ← ⟦Letter::MAX_K⟧ .entry; ⌜ ((P : List ℕ) → LastTable K P (now (lasts .entry)) → r ≡ afterR P c) ⌝ }
-{
-    index(greatest(lasts, c))
+    0
 }

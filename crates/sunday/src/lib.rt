@@ -4,9 +4,9 @@
 //
 // Its source: W. F. Smyth and S. Wang, "An Adaptive Hybrid Pattern-Matching Algorithm on Indeterminate Strings" (002), the BMS algorithm there and figures 2, 3 and 5. Departures:
 //
-// 1. Figure 3 fills its table under the pattern's letter, with the position in place of the shift; here each base letter that the pattern's letter has gets the position, and the shift is worked out from it.
+// 1. Figure 3 makes a table of shifts, filled under the pattern's letter with the position in place of the shift; here there is no table: the pattern is walked from its right end to the first letter that meets, and the shift is worked out from where it stands.
 // 2. Figure 5 reads the letter after the window where there is none, at the text's end; here it is read only if there is one.
-// 3. The letter after the window may be unsure: the greatest R over its members counts, which is the least of their shifts. An entry mark has no member, so that its R is none.
+// 3. The letter after the window may be unsure: the walk asks for a letter that shares any of its members, so that the greatest R over them counts, which is the least of their shifts. An entry mark meets nothing, so that its R is none.
 pub mod c;
 mod twice;
 
@@ -21,7 +21,6 @@ use inputs::refusal::Check;
 use letters::letter::Letter;
 use letters::strings::Pattern;
 use letters::strings::Text;
-use pattern::Prepared;
 use pattern::after_r;
 ghost use mathlib.Core.Path.{_≡_};
 ghost use Prim.Native.Nat.{_+_, _-_, _*_, _≤_};
@@ -31,31 +30,30 @@ ghost use Rattle.hits.specs.Hits.{hits};
 ghost use Rattle.lent.specs.Over.{over};
 ghost use Rattle.hits.specs.Counts.{workOf, turnOf};
 ghost use Rattle.inputs.specs.Answers.{Searched, scanOf};
-ghost use Rattle.pattern.specs.Tables.{LastTable};
 ghost use Rattle.sunday.specs.Sunday.{nextStart, sundayTurn, sundayRun};
 
 // The start after i. The letter after the window is read only if there is one.
-pub fn next_start(p: &[u32], t: &[u32], lasts: &[u32; Letter::MAX_K as usize], i: usize) -> usize
-    requires { do ⌜ (i + length (now p) ≤ length (now t)) × LastTable (← ⟦Letter::MAX_K⟧) (now p) (now lasts) ⌝ }
+pub fn next_start(p: &[u32], t: &[u32], i: usize) -> usize
+    requires { ⌜ i + length (now p) ≤ length (now t) ⌝ }
     ensures { λ r. ⌜ r ≡ nextStart (now (p .entry)) (now (t .entry)) i ⌝ }
 {
     let e = i + p.len();
     if e == t.len() {
         return i + 1;
     }
-    e + 1 - after_r(lasts, t[e])
+    e + 1 - after_r(p, t[e])
 }
 
 // A turn at start i.
-fn step(p: &[u32], t: &[u32], lasts: &[u32; Letter::MAX_K as usize], i: usize) -> Turned
-    requires { do ⌜ (i + length (now p) ≤ length (now t)) × LastTable (← ⟦Letter::MAX_K⟧) (now p) (now lasts) ⌝ }
+fn step(p: &[u32], t: &[u32], i: usize) -> Turned
+    requires { ⌜ i + length (now p) ≤ length (now t) ⌝ }
     ensures { λ r. ⌜ turnOf i r ≡ sundayTurn (now (p .entry)) (now (t .entry)) i ⌝ }
 {
     let m = p.len();
     let j = reach_to(p, t, i, 0, m);
     Turned {
         hit: j == m,
-        next: next_start(p, t, lasts, i),
+        next: next_start(p, t, i),
         scan: j as u64 + count(j < m),
         shift: 0,
     }
@@ -68,13 +66,11 @@ fn run(p: &[u32], t: &[u32], list: &mut [u32]) -> Work
 {
     let m = p.len();
     let n = t.len();
-    let q = Prepared::new(p);
-    let lasts = q.lasts;
     let mut i = 0;
     let mut total = 0;
     let mut scan: u64 = 0;
     while i + m <= n {
-        let s = step(p, t, &lasts, i);
+        let s = step(p, t, i);
         total = note(list, total, i, s.hit);
         scan += s.scan;
         i = s.next;

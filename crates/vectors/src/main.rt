@@ -1,5 +1,5 @@
-// The examples that are run: both sides of every limit, by all six engines, for the first hit alone and in the bound mode, and sheets whose refusal names a place. What is
-// printed is held to the file stdout.
+// The examples that are run: both sides of every limit, by all six engines, for the first hit alone and in the bound mode; letters for which R lies at the pattern's front; and sheets
+// whose refusal names a place. What is printed is held to the file stdout.
 use bound::Bound;
 use bound::choice::Choice;
 use bound::choice::choose;
@@ -212,6 +212,36 @@ fn cut_name() {
     say_first(first::search(3, &p[..1], &t[2..3]));
 }
 
+// The longest pattern, b, a 62 times, n, where the letter after the window, or under the failing one, is met by index 0 alone, by none, and is a mark.
+fn front_after_the_window() {
+    let mut p = [1u32; 64];
+    p[0] = 2;
+    p[63] = 4;
+    let mut first = [1u32; 128];
+    first[64] = 2;
+    first[127] = 4;
+    let mut none = [1u32; 129];
+    none[64] = 8;
+    none[65] = 2;
+    none[128] = 4;
+    six(b"m 64, met by index 0 alone\n", 4, &p, &first);
+    six(b"m 64, met by none\n", 4, &p, &none);
+    none[64] = 0;
+    six(b"m 64, a mark\n", 4, &p, &none);
+}
+
+// abn, where [ab] stands after the window, and under the letter that fails from the right: its lowest member stands left of the other.
+fn unsure_after_the_window() {
+    let mut p = [1u32; 3];
+    p[1] = 2;
+    p[2] = 4;
+    let mut t = [4u32; 5];
+    t[2] = 1;
+    t[3] = 3;
+    six(b"abn in nna[ab]n\n", 3, &p, &t);
+    six(b"abn in na[ab]n\n", 3, &p, &t[1..]);
+}
+
 fn say_bound(b: Bound) {
     match b {
         Bound::Refused(r) => say_refusal(r),
@@ -310,6 +340,8 @@ fn main() {
     first_of_n();
     marks();
     cut_name();
+    front_after_the_window();
+    unsure_after_the_window();
     bound_of_m();
     choice_of_m();
     sheets();

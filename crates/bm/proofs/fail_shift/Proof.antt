@@ -9,11 +9,11 @@ use Rattle.bm.proofs.fail_shift.Tie as tie
 
 returns : tie.Need-returns
 unfolding failShift
-returns c P t =
+returns c =
     let r = c .before .before in
-    let j = r .before .before .before .args .j in
+    let j = r .before .before .before .before .args .j in
     c .larger .ensures
-    ∙ ap (max 1) (c .before .less .ensures ∙ ap (λ (x : ℕ). j + 1 - x) (r .after-r .ensures P t) ∙ rw (add-one j))
+    ∙ ap (max 1) (c .before .less .ensures ∙ ap (λ (x : ℕ). j + 1 - x) (r .after-r .ensures) ∙ rw (add-one j))
 
 pub fail-shift-spec : {M : Type 1} → statement M
 fail-shift-spec =

@@ -6,7 +6,7 @@ use borrow.Author.Needs.{needs}
 use lib.ListN.{length}
 use Rattle.hits.specs.declared.work.Work.{Work}
 use Rattle.hits.proofs.LoopLaws.{Standing, stand, few, same-room, scan-fits, shift-fits, move, all-done}
-use Rattle.pattern.proofs.EntryLaws.{last-table, end-table, all-sure}
+use Rattle.pattern.proofs.EntryLaws.{end-table, all-sure}
 use Rattle.bm.specs.Bm.{bmRun}
 use Rattle.bm.proofs.BmLaws.{sound, turn-ahead, bm-scan-small, bm-shift-small}
 use Rattle.bm.proofs.run.Statement.{statement}
@@ -16,20 +16,20 @@ abbrev counted : ℕ → ℕ → ℕ → Work
 counted total scan shift = record { total = total; scan = scan; shift = shift; steps = 0 }
 
 abbrev Inv-loop : tie.InvT-loop
-Inv-loop p t list₀ m n lasts by whole i₀ total₀ scan₀ shift₀ list i total scan shift = Standing (sound p t) list₀ m n i list (counted total scan shift)
+Inv-loop p t list₀ m n by whole i₀ total₀ scan₀ shift₀ list i total scan shift = Standing (sound p t) list₀ m n i list (counted total scan shift)
 
 abbrev μ-loop : tie.MeasureT-loop
-μ-loop p t list₀ m n lasts by whole i₀ total₀ scan₀ shift₀ list i total scan shift = n + 1 - i
+μ-loop p t list₀ m n by whole i₀ total₀ scan₀ shift₀ list i total scan shift = n + 1 - i
 
 -- Places: what is made before the loop, the loop's head, and the step and the note of a pass
 abbrev tabled : tie.At-loop Inv-loop μ-loop → tie.After-from-end Inv-loop μ-loop
-tabled l = l .before .before .before .before
+tabled l = l .before .before .before
 
 abbrev given : tie.At-loop Inv-loop μ-loop → tie.Start Inv-loop μ-loop
 given l = tabled l .before .before .before .before .before
 
 abbrev head : tie.After-step Inv-loop μ-loop → tie.At-loop Inv-loop μ-loop
-head k = k .before .before .before .before
+head k = k .before .before .before
 
 abbrev noted : tie.After-struct-known2 Inv-loop μ-loop → tie.After-note Inv-loop μ-loop
 noted c = c .before .before .before
@@ -49,11 +49,10 @@ add-loop c = omega arith
 
 step-requires : tie.Need-step-requires Inv-loop μ-loop
 step-requires c κs =
-    let l = c .before .before .before in
+    let l = c .before .before in
     let e = tabled l in
-    let q = e .before .new .ensures in
     let p = given l .pre .pattern in
-    (p, record { ends = end-table _ p (e .from-end .ensures); last = last-table _ _ _ (q .1); single = sym (all-sure _ _ (q .0)) }, omega arith)
+    (p, record { ends = end-table _ p (e .from-end .ensures); single = sym (all-sure _ _ (e .before .new .ensures)) }, omega arith)
 
 note-requires : tie.Need-note-requires Inv-loop μ-loop
 note-requires c κs = omega (arith, few (sound _ _) _ _ _ _ _ _ (head (c .before) .loop .inv), given (head (c .before)) .pre .small)

@@ -36,25 +36,25 @@ stopped k =
       single = e .2 ∙ ap (λ (b : Bool). b && allSingle (a .t .now) (a .i + left) (length (a .p .now) - left)) (s .pre .1 .single);
     }
 
-add-t15 : tie.Need-add-t15
-add-t15 c =
+add-t14 : tie.Need-add-t14
+add-t14 c =
     let s = given (c .before .before) in
     let a = s .args in
-    omega (arith, c .fail-shift .ensures (a .p .now) (s .pre .1 .last), fail-le (a .p .now) (a .t .now) (a .i) (length (a .p .now) - 1))
+    omega (arith, c .fail-shift .ensures, fail-le (a .p .now) (a .t .now) (a .i) (length (a .p .now) - 1))
 
 returns : tie.Need-returns
 returns c =
     let k = c .before .before in
     let s = given k in
-    turn-none _ _ _ _ _ (s .pre .0 .some) (stopped k) (c .before .if1 .taken) _ (c .fail-shift .ensures _ (s .pre .1 .last))
+    turn-none _ _ _ _ _ (s .pre .0 .some) (stopped k) (c .before .if1 .taken) _ (c .fail-shift .ensures)
 
 first-shift-requires : tie.Need-first-shift-requires
 first-shift-requires c κs =
     let s = given (c .before) in
     (s .pre .0, s .pre .1 .ends, stopped (c .before))
 
-add-t16 : tie.Need-add-t16
-add-t16 c =
+add-t15 : tie.Need-add-t15
+add-t15 c =
     let f = c .before .before in
     omega (arith, by-first _ _ _ _ _ (given (scanned f) .pre .0 .some) (stopped (scanned f)) _ (f .first-shift .ensures .0))
 
@@ -64,11 +64,11 @@ returns-2 c =
     let w = f .first-shift .ensures in
     turn-hit _ _ _ _ _ (given (scanned f) .pre .0 .some) (stopped (scanned f)) (c .before .if2 .taken) _ _ (w .0) (w .1)
 
-add-t19 : tie.Need-add-t19
-add-t19 c =
+add-t18 : tie.Need-add-t18
+add-t18 c =
     let f = firstly c in
     let s = given (scanned f) in
-    omega (arith, by-larger _ _ _ _ _ (s .pre .0 .some) (stopped (scanned f)) _ _ _ (f .first-shift .ensures .0) (c .before .fail-shift2 .ensures _ (s .pre .1 .last)) (c .larger .ensures))
+    omega (arith, by-larger _ _ _ _ _ (s .pre .0 .some) (stopped (scanned f)) _ _ _ (f .first-shift .ensures .0) (c .before .fail-shift2 .ensures) (c .larger .ensures))
 
 returns-3 : tie.Need-returns-3
 returns-3 c =
@@ -76,7 +76,7 @@ returns-3 c =
     let s = given (scanned f) in
     let w = f .first-shift .ensures in
     rw (c .larger .ensures)
-    (turn-fail _ _ _ _ _ (s .pre .0 .some) (stopped (scanned f)) (omega arith) _ _ _ (w .0) (c .before .fail-shift2 .ensures _ (s .pre .1 .last)) (w .1))
+    (turn-fail _ _ _ _ _ (s .pre .0 .some) (stopped (scanned f)) (omega arith) _ _ _ (w .0) (c .before .fail-shift2 .ensures) (w .1))
 
 pub step-spec : {M : Type 1} → statement M
 step-spec =
@@ -85,15 +85,15 @@ step-spec =
     (λ c κs. search needs)
     (λ c. search needs)
     (λ c κs. search needs)
-    add-t15
+    add-t14
     returns
     first-shift-requires
-    add-t16
+    add-t15
     returns-2
     (λ c. search needs)
     (λ c κs. search needs)
     (λ c κs. search needs)
-    add-t19
+    add-t18
     (λ c. search needs)
     (λ c. search needs)
     returns-3)

@@ -7,7 +7,7 @@ use borrow.Author.Needs.{needs}
 use lib.ListN.{length}
 use Rattle.hits.specs.declared.work.Work.{Work}
 use Rattle.hits.proofs.LoopLaws.{Standing, stand, few, same-room, scan-rises, steps-rise, move-all, all-done}
-use Rattle.pattern.proofs.EntryLaws.{last-table, mask-table}
+use Rattle.pattern.proofs.EntryLaws.{mask-table}
 use Rattle.hybrid.specs.Hybrid.{hybridTurn, hybridRun, HybridTurns}
 use Rattle.hybrid.specs.declared.HybridTurned.{HybridTurned}
 use Rattle.hybrid.proofs.HybridLaws.{sound, turning, hybrid-scan, hybrid-steps}
@@ -18,11 +18,11 @@ abbrev counted : ℕ → ℕ → ℕ → Work
 counted total scan steps = record { total = total; scan = scan; shift = 0; steps = steps }
 
 abbrev Inv-loop : tie.InvT-loop
-Inv-loop p t list₀ m n rows lasts a₀ total₀ scan₀ steps₀ list a total scan steps =
+Inv-loop p t list₀ m n rows a₀ total₀ scan₀ steps₀ list a total scan steps =
     (s : 0 < length p) × Standing (sound p t s) list₀ m n a list (counted total scan steps)
 
 abbrev μ-loop : tie.MeasureT-loop
-μ-loop p t list₀ m n rows lasts a₀ total₀ scan₀ steps₀ list a total scan steps = n + 1 - a
+μ-loop p t list₀ m n rows a₀ total₀ scan₀ steps₀ list a total scan steps = n + 1 - a
 
 -- what a pass comes to whose step made the turn at a, noted its hits and left the list so
 record Passed (P T : List ℕ) (p : 0 < length P) (d : List ℕ) (a : ℕ) (w : Work) (r : HybridTurned) (list′ : List ℕ) : Type 0 where
@@ -54,15 +54,15 @@ passed {P} {T} p d a list total scan steps h l r list′ q =
           (ap (λ (x : HybridTurned). steps + x .steps) e);
     }
 
--- Places: the tables made, the function's begin, and the loop's head
-abbrev made : tie.At-loop Inv-loop μ-loop → tie.After-new Inv-loop μ-loop
+-- Places: the masks made, the function's begin, and the loop's head
+abbrev made : tie.At-loop Inv-loop μ-loop → tie.After-of Inv-loop μ-loop
 made l = l .before .before
 
 abbrev given : tie.At-loop Inv-loop μ-loop → tie.Start Inv-loop μ-loop
-given l = made l .before .before .before .before .before .before
+given l = made l .before .before .before .before
 
 abbrev head : tie.After-step-arg Inv-loop μ-loop → tie.At-loop Inv-loop μ-loop
-head k = k .before .before .before .before
+head k = k .before .before .before
 
 loop-holds : tie.Need-loop-holds Inv-loop μ-loop
 loop-holds c = (omega arith, stand (sound _ _ (omega arith)) _)
@@ -75,7 +75,7 @@ step-requires c κs =
     let l = head c in
     let s = given l .pre in
     let h = few (sound _ _ _) _ _ _ _ _ _ (l .loop .inv .1) in
-    (s .pattern, omega (arith, s .small), omega arith, mask-table _ _ _ (made l .before .before .of .ensures), last-table _ _ _ (made l .new .ensures .1))
+    (s .pattern, omega (arith, s .small), omega arith, mask-table _ _ _ (made l .of .ensures))
 
 -- the pass, after its step
 pass : (k : tie.After-step Inv-loop μ-loop) →
@@ -115,7 +115,6 @@ run-spec =
     (tie.spec
     Inv-loop
     μ-loop
-    (λ c κs. search needs)
     (λ c κs. search needs)
     loop-holds
     add-loop

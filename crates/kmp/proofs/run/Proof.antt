@@ -13,10 +13,10 @@ abbrev counted : ℕ → ℕ → ℕ → Work
 counted total scan shift = record { total = total; scan = scan; shift = shift; steps = 0 }
 
 abbrev Inv-loop : tie.InvT-loop
-Inv-loop p t list₀ m n sure by i₀ r₀ u₀ total₀ scan₀ shift₀ list i r u total scan shift = KmpStanding p t list₀ m n i r u list (counted total scan shift)
+Inv-loop p t list₀ m n by sure i₀ r₀ u₀ total₀ scan₀ shift₀ list i r u total scan shift = KmpStanding p t list₀ m n i r u list (counted total scan shift)
 
 abbrev μ-loop : tie.MeasureT-loop
-μ-loop p t list₀ m n sure by i₀ r₀ u₀ total₀ scan₀ shift₀ list i r u total scan shift = n + 1 - i
+μ-loop p t list₀ m n by sure i₀ r₀ u₀ total₀ scan₀ shift₀ list i r u total scan shift = n + 1 - i
 
 -- after the counts: the note of the hit, the step, the loop, and the function's start
 abbrev noted : tie.After-struct-known Inv-loop μ-loop → tie.After-note Inv-loop μ-loop
@@ -40,7 +40,7 @@ add-loop c = omega arith
 step-requires : tie.Need-step-requires Inv-loop μ-loop
 step-requires c κs =
     let l = c .before .before in (
-      record { sized = begin l .pre .pattern; prefix = l .before .before .before .new .ensures .0; shifts = l .before .before .from-front .ensures },
+      record { sized = begin l .pre .pattern; prefix = l .before .new .ensures; shifts = l .before .before .before .from-front .ensures },
       known (l .loop .inv) (omega arith),
     )
 

@@ -1,6 +1,6 @@
 -- `kmp::step` meets its contract: number by number it is a turn of the rule. Assumes nothing.
-use Prim.Native.Nat.{ℕ, _+_, _^_, _≤_, _<_}
-use mathlib.Core.Path.{refl, sym, ap}
+use Prim.Native.Nat.{ℕ, _+_, _-_, _^_, _≤_, _<_, min}
+use mathlib.Core.Path.{_≡_, refl, sym, ap}
 use mathlib.Core.Bool.{false}
 use native.Mathlib.Nat.{pos-of-ne-zero, lt-of-le-of-lt}
 use native.Mathlib.Omega.{arith}
@@ -10,7 +10,7 @@ use lib.ListN.{length}
 use Rattle.hits.specs.Counts.{tally}
 use Rattle.kmp.specs.Kmp.{shiftBy}
 use Rattle.kmp.proofs.KmpLaws.{shift-top}
-use Rattle.kmp.proofs.CarryLaws.{shift-none, scan-on-ge, scan-counted, scan-few, cut, uncut, first-past, turn-is}
+use Rattle.kmp.proofs.CarryLaws.{shift-none, scan-on-ge, scan-counted, scan-few, cut, uncut, end-way, end-past, first-past, turn-is}
 use Rattle.kmp.proofs.step.Statement.{statement}
 use Rattle.kmp.proofs.step.Tie as tie
 
@@ -66,18 +66,25 @@ module _ (b : tie.After-shift-by) where
       shiftBy (a .p .now) (a .t .now) (a .i) (k .scan-on .result .met) ≤ k .scan-on .result .met
   within-met = shift-top _ _ _ _ (pos-of-ne-zero (b .before .before .if1 .left))
 
+  -- and goes no further than the first start past the last
+  cut-there :
+      let k = scanned b in
+      let a = begin k .args in
+      min (b .shift-by .result .by) (length (a .t .now) + 1 - length (a .p .now) - a .i) ≡ shiftBy (a .p .now) (a .t .now) (a .i) (k .scan-on .result .met)
+  cut-there = rw (end-way _ _ _) (b .shift-by .ensures .0)
+
 sub-t25 : tie.Need-sub-t25
 sub-t25 c = omega (arith, begin (scanned (c .before .before)) .pre .1 .inside)
 
 sub-t26 : tie.Need-sub-t26
-sub-t26 c = let b = c .before .before in cut (b .shift-by .ensures .0) (within-met b) (c .if2 .taken) .1
+sub-t26 c = let b = c .before .before in cut (cut-there b) (within-met b) (c .if2 .taken) .1
 
 returns-2 : tie.Need-returns-2
 returns-2 c =
     let b = c .before .before in
     let k = scanned b in
     let e = k .scan-on .ensures in
-    turn-is (begin k .pre .1) (e .0) (e .1) _ (cut (b .shift-by .ensures .0) (within-met b) (c .if2 .taken) .0) _ _ _ _ _
+    turn-is (begin k .pre .1) (e .0) (e .1) _ (cut (cut-there b) (within-met b) (c .if2 .taken) .0) _ _ _ _ _
     refl
     (first-past _ _ _ (e .1 .inside))
     refl
@@ -87,19 +94,19 @@ returns-2 c =
 add-t22 : tie.Need-add-t22
 add-t22 c =
     let b = c .before .before .before in
-    record { fits = fits (scanned b) _ (uncut (b .shift-by .ensures .0) (within-met b) (c .before .if2 .left) .1) }
+    record { fits = fits (scanned b) _ (uncut (cut-there b) (within-met b) (c .before .if2 .left) .1) }
 
 sub-t18 : tie.Need-sub-t18
 sub-t18 c =
     let b = c .before .before .before .before in
-    uncut (b .shift-by .ensures .0) (within-met b) (c .before .before .if2 .left) .1
+    uncut (cut-there b) (within-met b) (c .before .before .if2 .left) .1
 
 returns-3 : tie.Need-returns-3
 returns-3 c =
     let b = c .before .before .before .before in
     let k = scanned b in
     let e = k .scan-on .ensures in
-    turn-is (begin k .pre .1) (e .0) (e .1) _ (uncut (b .shift-by .ensures .0) (within-met b) (c .before .before .if2 .left) .0) _ _ _ _ _
+    turn-is (begin k .pre .1) (e .0) (e .1) _ (uncut (cut-there b) (within-met b) (c .before .before .if2 .left) .0) _ _ _ _ _
     refl
     refl
     refl
@@ -119,7 +126,7 @@ step-spec =
     shift-by-requires
     (λ c. search needs)
     (λ c. search needs)
-    (λ c. search needs)
+    (λ c. end-past _ _ _ (begin (scanned c) .pre .1 .inside))
     (λ c. search needs)
     sub-t25
     sub-t26

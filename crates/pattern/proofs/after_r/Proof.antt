@@ -1,14 +1,49 @@
--- `after_r` meets its contract: R of a letter is the greatest over its members. Assumes nothing.
+-- `after_r` meets its contract: no letter that the walk has passed meets c. Assumes nothing.
 use borrow.Author.Needs.{needs}
-use mathlib.Core.Path.{_∙_}
-use Rattle.pattern.proofs.LastTable.{r-greatest}
+use native.Mathlib.Omega.{arith}
+use mathlib.Core.Path.{sym, _∙_}
+use Prim.Native.Nat.{_-_}
+use lib.ListN.{length}
+use Rattle.pattern.proofs.LastLaws.{CameDown, down-start, down-here, down-on, down-end}
 use Rattle.pattern.proofs.after_r.Statement.{statement}
 use Rattle.pattern.proofs.after_r.Tie as tie
 
-returns : tie.Need-returns
-returns c =
-    let a = c .before .before .args in
-    λ P t. c .index .ensures ∙ c .before .greatest .ensures ∙ r-greatest P _ (a .lasts .now) (a .c) (c .before .before .fits .c .fits) t
+abbrev Inv-loop : tie.InvT-loop
+Inv-loop p c passed₀ passed = CameDown p c (length p - passed)
+
+abbrev μ-loop : tie.MeasureT-loop
+μ-loop p c passed₀ passed = length p - passed
+
+loop-holds : tie.Need-loop-holds Inv-loop μ-loop
+loop-holds c = down-start _ _
+
+-- the loop's head, from the test
+abbrev head : tie.After-meet Inv-loop μ-loop → tie.At-loop Inv-loop μ-loop
+head k = k .before .before .before
+
+returns : tie.Need-returns Inv-loop μ-loop
+returns c = down-here (head (c .before) .loop .inv) (omega arith) (sym (c .before .meet .ensures) ∙ c .if1 .taken)
+
+loop-again : tie.Need-loop-again Inv-loop μ-loop
+loop-again c = down-on (head (c .before) .loop .inv) (omega arith) (sym (c .before .meet .ensures) ∙ c .if1 .left) _ (omega arith)
+
+returns-2 : tie.Need-returns-2 Inv-loop μ-loop
+returns-2 c = down-end (c .before .loop .inv) (omega arith)
 
 pub after-r-spec : {M : Type 1} → statement M
-after-r-spec = tie.close (tie.spec (λ c κs. search needs) (λ c κs. search needs) returns)
+after-r-spec =
+    tie.close
+    (tie.spec
+    Inv-loop
+    μ-loop
+    loop-holds
+    (λ c. search needs)
+    (λ c. search needs)
+    (λ c. search needs)
+    (λ c. search needs)
+    (λ c κs. search needs)
+    returns
+    (λ c. search needs)
+    (λ c. search needs)
+    loop-again
+    returns-2)

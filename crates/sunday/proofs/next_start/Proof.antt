@@ -17,7 +17,7 @@ given c = c .before .before .before .before .before
 shifted : (c : tie.After-after-r) →
     let a = given c .args in
     (c .after-r .result ≤ length (a .p .now)) × (nextStart (a .p .now) (a .t .now) (a .i) + c .after-r .result ≡ a .i + length (a .p .now) + 1)
-shifted c = next-by _ _ _ (c .before .before .if1 .left) _ (c .after-r .ensures _ (given c .pre .1))
+shifted c = next-by _ _ _ (c .before .before .if1 .left) _ (c .after-r .ensures)
 
 returns : tie.Need-returns
 returns c = sym (next-end _ _ _ (c .if1 .taken))

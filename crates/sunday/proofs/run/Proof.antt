@@ -7,7 +7,6 @@ use lib.ListN.{length}
 use Rattle.hits.specs.Turns.{Turn}
 use Rattle.hits.specs.declared.work.Work.{Work}
 use Rattle.hits.proofs.LoopLaws.{Standing, stand, few, same-room, scan-fits, move, all-done}
-use Rattle.pattern.proofs.EntryLaws.{last-table}
 use Rattle.sunday.specs.Sunday.{sundayTurn, sundayRun}
 use Rattle.sunday.proofs.SundayLaws.{sound, sunday-small, turn-ahead}
 use Rattle.sunday.proofs.run.Statement.{statement}
@@ -17,20 +16,17 @@ abbrev counted : ℕ → ℕ → Work
 counted total scan = record { total = total; scan = scan; shift = 0; steps = 0 }
 
 abbrev Inv-loop : tie.InvT-loop
-Inv-loop p t list₀ m n lasts i₀ total₀ scan₀ list i total scan = Standing (sound p t) list₀ m n i list (counted total scan)
+Inv-loop p t list₀ m n i₀ total₀ scan₀ list i total scan = Standing (sound p t) list₀ m n i list (counted total scan)
 
 abbrev μ-loop : tie.MeasureT-loop
-μ-loop p t list₀ m n lasts i₀ total₀ scan₀ list i total scan = n + 1 - i
+μ-loop p t list₀ m n i₀ total₀ scan₀ list i total scan = n + 1 - i
 
--- Places: the table made, the loop's head, and the step, from the end of a pass
-abbrev made : tie.At-loop Inv-loop μ-loop → tie.After-new Inv-loop μ-loop
-made l = l .before .before
-
+-- Places: the function's begin, the loop's head, and the step, from the end of a pass
 abbrev given : tie.At-loop Inv-loop μ-loop → tie.Start Inv-loop μ-loop
-given l = made l .before .before .before .before
+given l = l .before .before .before .before
 
 abbrev head : tie.After-step Inv-loop μ-loop → tie.At-loop Inv-loop μ-loop
-head k = k .before .before .before
+head k = k .before .before
 
 abbrev noted : tie.After-struct-known Inv-loop μ-loop → tie.After-note Inv-loop μ-loop
 noted c = c .before .before .before
@@ -47,9 +43,6 @@ loop-holds c = stand (sound _ _) _
 
 add-loop : tie.Need-add-loop Inv-loop μ-loop
 add-loop c = omega arith
-
-step-requires : tie.Need-step-requires Inv-loop μ-loop
-step-requires c κs = (omega arith, last-table _ _ _ (made (c .before .before) .new .ensures .1))
 
 note-requires : tie.Need-note-requires Inv-loop μ-loop
 note-requires c κs = omega (arith, few (sound _ _) _ _ _ _ _ _ (head (c .before) .loop .inv), given (head (c .before)) .pre .small)
@@ -85,10 +78,9 @@ run-spec =
     (tie.spec
     Inv-loop
     μ-loop
-    (λ c κs. search needs)
     loop-holds
     add-loop
-    step-requires
+    (λ c κs. search needs)
     note-requires
     add-scan
     loop-less

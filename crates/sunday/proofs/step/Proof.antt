@@ -6,8 +6,8 @@ use Rattle.sunday.specs.Sunday.{sundayTurn}
 use Rattle.sunday.proofs.step.Statement.{statement}
 use Rattle.sunday.proofs.step.Tie as tie
 
-add-t12 : tie.Need-add-t12
-add-t12 c = omega (arith, whole-scan _ _ _ _ _ (c .before .before .reach-to .ensures) (c .count .ensures))
+add-t11 : tie.Need-add-t11
+add-t11 c = omega (arith, whole-scan _ _ _ _ _ (c .before .before .reach-to .ensures) (c .count .ensures))
 
 returns : tie.Need-returns
 unfolding sundayTurn
@@ -17,4 +17,4 @@ returns c =
 
 pub step-spec : {M : Type 1} → statement M
 step-spec =
-    tie.close (tie.spec (λ c κs. search needs) (λ c κs. search needs) (λ c κs. search needs) add-t12 returns)
+    tie.close (tie.spec (λ c κs. search needs) (λ c κs. search needs) (λ c κs. search needs) add-t11 returns)

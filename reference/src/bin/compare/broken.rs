@@ -61,6 +61,9 @@ pub const SLIPS: &[Slip] = &[
     slip("bm-right-to-left", SEARCHES, "BM's trials go over the covered positions right to left"),
     slip("bm-met-only", &["exhaustive", "random"], "BM asks only the letters that met to be single, not all of P"),
     slip("lowest-member", SEARCHES, "R looks at the lowest member of an unsure letter alone"),
+    slip("r-least", SEARCHES, "R is the least index that meets, not the greatest"),
+    slip("r-without-0", SEARCHES, "R never looks at index 0, and is -1 where that alone meets"),
+    slip("r-none-0", SEARCHES, "R is 0 where no index meets"),
     slip("hybrid-one-on", SEARCHES, "Hybrid goes one on after a failure, not as Sunday does"),
     slip("k-32", LIMITS, "an alphabet of 32 is refused"),
     slip("m-64", LIMITS, "a pattern of 64 letters is refused"),
@@ -207,13 +210,23 @@ fn all_single(letters: &[u32]) -> bool {
     letters.iter().all(|c| single(*c))
 }
 
+/// The slips in R, by which three engines shift. Where it is too small a shift is too long and loses hits; where it is
+/// too great only counts differ.
+pub const TOO_SMALL: [&str; 3] = ["lowest-member", "r-least", "r-without-0"];
+pub const TOO_GREAT: [&str; 2] = ["r-none-0", "mark-r"];
+
 /// R(c) + 1.
 fn after_r(name: &str, p: &[u32], c: u32) -> usize {
-    if name == "mark-r" && c == MARK {
-        return 1;
-    }
-    let c = if name == "lowest-member" { c & c.wrapping_neg() } else { c };
-    p.iter().rposition(|x| meets(*x, c)).map_or(0, |j| j + 1)
+    let seen = if name == "lowest-member" { c & c.wrapping_neg() } else { c };
+    let mut met = (0..p.len()).filter(|j| meets(p[*j], seen));
+    let r = match name {
+        "r-least" => met.next(),
+        "r-without-0" => met.next_back().filter(|j| *j > 0),
+        "r-none-0" => met.next_back().or(Some(0)),
+        "mark-r" if c == MARK => Some(0),
+        _ => met.next_back(),
+    };
+    r.map_or(0, |j| j + 1)
 }
 
 fn kmp(name: &str, p: &[u32], t: &[u32]) -> Found {
@@ -338,11 +351,15 @@ pub fn searched(name: Option<&str>, k: u32, p: &[u32], t: &[u32]) -> (Vec<u32>, 
 /// An engine's run with the slip that was asked for, if the slip is in that engine or in what it searches.
 pub fn run(name: Option<&str>, engine: Engine, k: u32, p: &[u32], t: &[u32]) -> Found {
     let (p, t) = &searched(name, k, p, t);
-    match (name.unwrap_or(""), engine) {
-        (name @ ("kmp-borders" | "kmp-beyond" | "kmp-whole-pattern" | "mark-past"), Engine::Kmp) => kmp(name, p, t),
-        (name @ ("bm-right-to-left" | "bm-met-only" | "lowest-member" | "mark-r"), Engine::Bm) => bm(name, p, t),
-        (name @ ("lowest-member" | "mark-r"), Engine::Sunday) => sunday(name, p, t),
-        (name @ ("lowest-member" | "hybrid-one-on" | "mark-r"), Engine::Hybrid) => hybrid(name, p, t),
+    let name = name.unwrap_or("");
+    let in_r = TOO_SMALL.contains(&name) || TOO_GREAT.contains(&name);
+    match (name, engine) {
+        ("kmp-borders" | "kmp-beyond" | "kmp-whole-pattern" | "mark-past", Engine::Kmp) => kmp(name, p, t),
+        ("bm-right-to-left" | "bm-met-only", Engine::Bm) => bm(name, p, t),
+        ("hybrid-one-on", Engine::Hybrid) => hybrid(name, p, t),
+        (_, Engine::Bm) if in_r => bm(name, p, t),
+        (_, Engine::Sunday) if in_r => sunday(name, p, t),
+        (_, Engine::Hybrid) if in_r => hybrid(name, p, t),
         _ => engine.run(p, t),
     }
 }

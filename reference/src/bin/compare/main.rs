@@ -11,6 +11,7 @@ mod broken_bound;
 mod cases;
 mod expected;
 mod first;
+mod fronts;
 mod library;
 mod products;
 mod program;

@@ -1,6 +1,7 @@
 //! The six searches, and the strings on which the first hit and the bound mode are asked for too.
 
 use crate::cases::{pair, strings_up_to};
+use crate::fronts;
 use crate::library::{self, SearchCase};
 use crate::random::Random;
 use crate::{Run, Told};
@@ -79,16 +80,26 @@ pub fn random_pair(run: &mut Run) -> Question {
     (k, pattern, text)
 }
 
+/// A question to all six, each with a list and counts of another length.
+fn with_any_room(run: &mut Run, (k, pattern, text): Question) -> Told {
+    let total = hits(&pattern, &text).len();
+    for engine in ENGINES {
+        let caps = [0, 1, total / 2, total.saturating_sub(1), total, total + 1, total + 9];
+        let cap = run.random.pick(&caps);
+        let nwork = run.random.pick(&[3, 3, 3, 4, 7]);
+        one(run, engine, &SearchCase { k, pattern: pattern.clone(), text: text.clone(), cap, nwork })?;
+    }
+    Ok(())
+}
+
 pub fn random(run: &mut Run) -> Told {
     for _ in 0..run.times(40_000) {
-        let (k, pattern, text) = random_pair(run);
-        let total = hits(&pattern, &text).len();
-        for engine in ENGINES {
-            let caps = [0, 1, total / 2, total.saturating_sub(1), total, total + 1, total + 9];
-            let cap = run.random.pick(&caps);
-            let nwork = run.random.pick(&[3, 3, 3, 4, 7]);
-            one(run, engine, &SearchCase { k, pattern: pattern.clone(), text: text.clone(), cap, nwork })?;
-        }
+        let question = random_pair(run);
+        with_any_room(run, question)?;
+    }
+    for _ in 0..run.times(3_000) {
+        let question = fronts::pair(&mut run.random);
+        with_any_room(run, question)?;
     }
     Ok(())
 }
