@@ -38,9 +38,11 @@ fn sure_of(p: &[u32]) -> usize
 
 // R(c) + 1, by a walk from the right end to the first letter that meets c; 0 if none does, as with an entry mark. No table is held for it.
 //
-// A walk looks at m - R(c) letters, or at all m if none meets. In Sunday and Hybrid that is at most the shift that it gives, and the starts
-// that are shifted from lie within the text, so all walks of a search look at n letters at most. In BM, where letter j fails after g others
-// met, m - R is j - R and g + 1 more: the shift, if R lies left of j, and the tests of that scan; else it is less than those tests alone.
+// A walk looks at m - R(c) letters, or at all m if none meets. In Sunday and Hybrid that is at most the shift that it gives. They walk only if
+// i + m is below n, so that no such shift leads past n, and all walks of a search look at n letters at most. In BM, where letter j fails after
+// g others met, m - R is j - R and g + 1 more: the shift, if R lies left of j, and the tests of that scan; else it is less than those tests.
+//
+// The letters passed are counted, upward: the compiler makes a shorter loop of that than of those left, counted down (docs/SPEED.md).
 pub fn after_r(p: &[u32], c: u32) -> usize
     ensures { λ r. ⌜ r ≡ afterR (now (p .entry)) c ⌝ }
 {
