@@ -6,7 +6,7 @@ I = $(DESTDIR)$(PREFIX)
 LIB = target/staticlib/libbreakwarp.a
 PROGRAM = target/bin/search
 SOURCES = crates.txt $(shell find crates -name '*.rt' -o -name '*.antt')
-CALLS = brute kmp bm sunday shiftand hybrid first bound bound_choice to_products from_products products_meet read_sheet write_sheet report
+CALLS = brute kmp bm sunday shiftand hybrid first bound bound_choice reasons to_products from_products products_meet read_sheet write_sheet report
 .PHONY: help search sheet program lib test bench beside fmt install uninstall clean
 .DELETE_ON_ERROR:
 

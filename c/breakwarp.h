@@ -35,7 +35,7 @@
 extern "C" {
 #endif
 
-#define BREAKWARP_VERSION "1.3.1"
+#define BREAKWARP_VERSION "1.4"
 
 /* Limits. */
 #define BREAKWARP_MAX_K 32            /* base letters */
@@ -117,6 +117,15 @@ int64_t breakwarp_bound(uint32_t k, const uint32_t *pattern, size_t m, const uin
 int64_t breakwarp_bound_choice(uint32_t k, const uint32_t *pattern, size_t m,
                                const uint32_t *text, size_t n, size_t start, uint32_t *choice,
                                size_t cap);
+
+/* Why a start is listed, or is not: sets[j] is the set of base letters that pattern letter j and
+ * the text letter under it share, 0 if there is none, as with an entry mark. Writes m sets and
+ * returns m, at a start that is no hit too. If start + m is at most n, the start is a hit exactly if
+ * none of the sets is 0; at a bound-listed start set j has the letter that breakwarp_bound_choice
+ * gives for j (both proved). The start may be any number. Refusals, in this order: 1, 2, 3, 4, 5,
+ * then 16 if start + m exceeds n, then 8 if fewer than m sets are lent. */
+int64_t breakwarp_reasons(uint32_t k, const uint32_t *pattern, size_t m, const uint32_t *text,
+                          size_t n, size_t start, uint32_t *sets, size_t cap);
 
 /* Letters to prime products: base letter b stands for the prime at b in 2, 3, 5, 7, 11, 13, 17,
  * 19, 23, and a letter for the product of its members' primes; so an entry mark, 0, for 1. Writes

@@ -195,13 +195,13 @@ int64_t __wrap_breakwarp_bound(uint32_t k, const uint32_t *pattern, size_t m, co
 
 /* The start that is handed on, with the slip that is asked for: one further; cut to 32 bits; or, where its sum with m
  * wraps and is small again, a right one. */
-static size_t swapped_start(size_t start, size_t m)
+static size_t swapped_start(const char *call, size_t start, size_t m)
 {
-    if (asked("bound_choice", "start"))
+    if (asked(call, "start"))
         return start + (start < BREAKWARP_MAX_N);
-    if (asked("bound_choice", "start-32"))
+    if (asked(call, "start-32"))
         return (uint32_t)start;
-    return asked("bound_choice", "start-wraps") && start + m < m ? 0 : start;
+    return asked(call, "start-wraps") && start + m < m ? 0 : start;
 }
 
 /* The text slips as if it were a call of its own, `bound_choice-text`; so does what is written at a start that is not
@@ -216,7 +216,7 @@ int64_t __wrap_breakwarp_bound_choice(uint32_t k, const uint32_t *pattern, size_
     uint32_t ample[BREAKWARP_MAX_M];
     const uint32_t *p = swapped("bound_choice", "mark-pattern", pattern, m, 0, 1);
     const uint32_t *t = swapped("bound_choice", "mark", text, n, 0, 1);
-    size_t handed = swapped_start(start, m);
+    size_t handed = swapped_start("bound_choice", start, m);
     int64_t answer = __real_breakwarp_bound_choice(k, p, m, t, n, handed, choice, cap);
     if (asked("bound_choice", "one-pass") && answer == 0 && one_pass(p, m, t + handed))
         answer = 1;
@@ -234,6 +234,97 @@ int64_t __wrap_breakwarp_bound_choice(uint32_t k, const uint32_t *pattern, size_
     slipped("bound_choice-first", answer, first, NULL, 0);
     slipped("bound_choice-none", answer, none, NULL, 0);
     return slipped("bound_choice", answer, out, pattern, m * sizeof *pattern);
+}
+
+/* Whether this slip is asked for, and leaves the set of position j as it was before the call: where the set is empty; where
+ * one before it is; or where any is. */
+static int left_alone(const uint32_t *sets, size_t m, size_t j)
+{
+    size_t first = 0;
+    while (first < m && sets[first] != 0)
+        first++;
+    return (asked("reasons", "keeps") && sets[j] == 0) || (asked("reasons", "first-empty") && first < j) ||
+           (asked("reasons", "hit-only") && first < m);
+}
+
+/* The sets of a start as a slip would have written them: p is the pattern, t what stands under it, and `before` what the
+ * lent slice held. */
+static void swapped_sets(const uint32_t *p, size_t m, const uint32_t *t, const uint32_t *before, uint32_t *sets)
+{
+    uint32_t right[BREAKWARP_MAX_M];
+    memcpy(right, sets, m * sizeof *sets);
+    for (size_t j = 0; j < m; j++) {
+        if (left_alone(right, m, j))
+            sets[j] = before[j];
+        if (asked("reasons", "union"))
+            sets[j] = p[j] | t[j];
+        if (asked("reasons", "lowest"))
+            sets[j] = right[j] & (0 - right[j]);
+        if (asked("reasons", "yes"))
+            sets[j] = right[j] != 0;
+        if (asked("reasons", "mark-any") && t[j] == 0)
+            sets[j] = p[j];
+        if (asked("reasons", "backwards"))
+            sets[j] = right[m - 1 - j];
+    }
+}
+
+static int has_empty(const uint32_t *sets, size_t m)
+{
+    for (size_t j = 0; j < m; j++)
+        if (sets[j] == 0)
+            return 1;
+    return 0;
+}
+
+int64_t __real_breakwarp_reasons(uint32_t, const uint32_t *, size_t, const uint32_t *, size_t, size_t, uint32_t *,
+                                 size_t);
+int64_t __wrap_breakwarp_reasons(uint32_t, const uint32_t *, size_t, const uint32_t *, size_t, size_t, uint32_t *,
+                                 size_t);
+
+/* The library's answer at the start that a slip hands on, with the slips in answer and sets. */
+static int64_t slipped_reasons(uint32_t k, const uint32_t *p, size_t m, const uint32_t *t, size_t n, size_t start,
+                               uint32_t *sets, size_t cap)
+{
+    uint32_t before[BREAKWARP_MAX_M] = {0}, ample[BREAKWARP_MAX_M];
+    size_t handed = swapped_start("reasons", start, m);
+    if (asked("reasons", "window") && start < n && m <= n - start)
+        handed = 0;
+    if (m > 0 && m <= BREAKWARP_MAX_M && m <= cap)
+        memcpy(before, sets, m * sizeof *sets);
+    int64_t answer = __real_breakwarp_reasons(k, p, m, t, n, handed, sets, cap);
+    /* Too little room is passed over where the start is no hit, told where the start is to be refused, or filled. */
+    if (answer == -BREAKWARP_REFUSED_ROOM) {
+        __real_breakwarp_reasons(k, p, m, t, n, handed, ample, BREAKWARP_MAX_M);
+        if (asked("reasons", "room-fills") && cap > 0)
+            memcpy(sets, ample, cap * sizeof *sets);
+        return asked("reasons", "room-hit") && has_empty(ample, m) ? (int64_t)m : answer;
+    }
+    if (answer == -BREAKWARP_REFUSED_START && asked("reasons", "room-first") && cap < m)
+        return -BREAKWARP_REFUSED_ROOM;
+    if (answer < 0)
+        return answer;
+    int hit = !has_empty(sets, m);
+    swapped_sets(p, m, t + handed, before, sets);
+    return asked("reasons", "answers-hit") ? hit : answer;
+}
+
+/* The text slips as if it were a call of its own, `reasons-text`; so does the first set, `reasons-first`, which is not the
+ * last value, and what is written at a start that is no hit, `reasons-none`. */
+int64_t __wrap_breakwarp_reasons(uint32_t k, const uint32_t *pattern, size_t m, const uint32_t *text, size_t n,
+                                 size_t start, uint32_t *sets, size_t cap)
+{
+    const uint32_t *p = swapped("reasons", "mark-pattern", pattern, m, 0, 1);
+    const uint32_t *t = swapped("reasons", "mark", text, n, 0, 1);
+    int64_t answer = slipped_reasons(k, p, m, t, n, start, sets, cap);
+    int taken = answer >= 0 && m <= cap, none = taken && has_empty(sets, m);
+    struct output nothing = {NULL, 1, 0, 0};
+    struct output first = {sets, sizeof *sets, cap, taken ? 1 : 0};
+    struct output out = {sets, sizeof *sets, cap, taken ? m : 0};
+    slipped("reasons-text", answer, nothing, text, n * sizeof *text);
+    slipped("reasons-first", answer, first, NULL, 0);
+    slipped("reasons-none", answer, none ? out : nothing, NULL, 0);
+    return slipped("reasons", answer, out, pattern, m * sizeof *pattern);
 }
 
 /* `mark` is what stands for the mark, the letter 0 or the product 1, and `other` what it is taken for. */

@@ -8,7 +8,7 @@ work=$(mktemp -d)
 trap 'rm -rf "$work"' EXIT
 
 searches="brute kmp bm sunday shiftand hybrid"
-calls="$searches first bound bound_choice to_products from_products products_meet read_sheet write_sheet report"
+calls="$searches first bound bound_choice reasons to_products from_products products_meet read_sheet write_sheet report"
 wraps=
 for call in $calls; do wraps="$wraps -Wl,--wrap=breakwarp_$call"; done
 # shellcheck disable=SC2086
@@ -46,12 +46,19 @@ for slip in start start-32 start-wraps room-listed room-first one-pass; do try b
 try bound_choice-text input
 try bound_choice-first value
 for slip in tail before after; do try bound_choice-none "$slip"; done
+# The start that is handed on, or none at all; whether 8 is asked where there is no hit, comes before 16, and leaves all alone.
+for slip in start start-32 start-wraps window room-hit room-first room-fills; do try reasons "$slip"; done
+# Other sets than those in common, sets that are not written, another order, another answer.
+for slip in union lowest yes mark-any keeps first-empty hit-only backwards answers-hit; do try reasons "$slip"; done
+try reasons-text input
+try reasons-first value
+for slip in value tail; do try reasons-none "$slip"; done
 for call in read_sheet-pattern read_sheet-text read_sheet-sizes; do
     for slip in value before after tail refused; do try "$call" "$slip"; done
 done
 # Slips about the mark: taken for a letter, in the text or as a product; in the pattern; in the alphabet; in a bracket.
 for call in $calls; do try "$call" mark; done
-for call in $searches first bound bound_choice read_sheet write_sheet report; do try "$call" mark-pattern; done
+for call in $searches first bound bound_choice reasons read_sheet write_sheet report; do try "$call" mark-pattern; done
 for call in read_sheet write_sheet report; do try "$call" mark-alphabet; done
 for call in read_sheet report; do try "$call" mark-bracket; done
 echo "slips: $noticed slips, all noticed"

@@ -23,6 +23,8 @@ static void *first(void *a) { breakwarp_first(2, pattern, 64, text, 65536, work,
 /* Every start listed, then one start of 65 sets in a chain, listed and not. */
 static void *bound(void *a) { breakwarp_bound(2, pattern, 64, text, 65536, hits, 65536); breakwarp_bound(32, links, 64, links + 1, 64, hits, 1); return a; }
 static void *bound_choice(void *a) { breakwarp_bound_choice(32, links, 64, links + 1, 64, 0, hits, 64); breakwarp_bound_choice(32, links, 64, links + 2, 64, 0, hits, 64); return a; }
+/* The last start of the largest text, and one that shares nothing. */
+static void *reasons(void *a) { breakwarp_reasons(2, pattern, 64, text, 65536, 65472, hits, 64); breakwarp_reasons(32, links, 64, links + 1, 64, 0, hits, 64); return a; }
 static void *to_products(void *a) { breakwarp_to_products(2, text, 65536, other, 65536); return a; }
 static void *from_products(void *a) { breakwarp_from_products(2, other, 65536, hits, 65536); return a; }
 static void *products_meet(void *a) { breakwarp_products_meet(9, 223092870, 223092870); return a; }
@@ -48,7 +50,7 @@ static size_t used(void *(*f)(void *)) {
 int main(void) {
   static const struct { const char *name; void *(*f)(void *); } calls[] = {
     {"brute", brute}, {"kmp", kmp}, {"bm", bm}, {"sunday", sunday}, {"shiftand", shiftand}, {"hybrid", hybrid},
-    {"first", first}, {"bound", bound}, {"bound_choice", bound_choice}, {"to_products", to_products}, {"from_products", from_products}, {"products_meet", products_meet},
+    {"first", first}, {"bound", bound}, {"bound_choice", bound_choice}, {"reasons", reasons}, {"to_products", to_products}, {"from_products", from_products}, {"products_meet", products_meet},
     {"read_sheet", read_sheet}, {"write_sheet", write_sheet}, {"report", report}};
   for (size_t i = 0; i < 64; i++) pattern[i] = i % 2 ? 1 : 3;
   for (size_t i = 0; i < 65536; i++) text[i] = i % 3 ? 1 : 3;

@@ -575,21 +575,31 @@ static void try_bound(uint32_t k, const uint32_t *p, size_t m, const uint32_t *t
     unchanged("text", text, t, n * sizeof *t);
 }
 
-/* One call at one start. m numbers are written if the answer is 1, and nothing if it is not. */
-static void try_choice(uint32_t k, const uint32_t *p, size_t m, const uint32_t *t, size_t n, size_t start, size_t cap,
-                       int64_t answer, const uint32_t *choice)
+typedef int64_t at_start(uint32_t k, const uint32_t *pattern, size_t m, const uint32_t *text, size_t n, size_t start,
+                         uint32_t *values, size_t cap);
+
+/* One call at one start, which writes so many of these values. */
+static void try_at(const char *name, at_start *call, uint32_t k, const uint32_t *p, size_t m, const uint32_t *t,
+                   size_t n, size_t start, size_t cap, int64_t answer, const uint32_t *values, size_t written)
 {
-    snprintf(about, sizeof about, "bound_choice, k %u, m %zu, n %zu, start %zu, room for %zu", (unsigned)k, m, n, start,
+    snprintf(about, sizeof about, "%s, k %u, m %zu, n %zu, start %zu, room for %zu", name, (unsigned)k, m, n, start,
              cap);
     uint32_t *pattern = copy(p, m * sizeof *p);
     uint32_t *text = copy(t, n * sizeof *t);
-    struct lent numbers = lend(cap * sizeof *choice);
+    struct lent room = lend(cap * sizeof *values);
     errno = 77;
-    same("answer", breakwarp_bound_choice(k, pattern, m, text, n, start, slice(numbers), cap), answer);
+    same("answer", call(k, pattern, m, text, n, start, slice(room), cap), answer);
     same("errno", errno, 77);
-    holds("choice", numbers, choice, answer == 1 ? m * sizeof *choice : 0);
+    holds("what is written", room, values, written * sizeof *values);
     unchanged("pattern", pattern, p, m * sizeof *p);
     unchanged("text", text, t, n * sizeof *t);
+}
+
+/* The choice: m numbers are written if the answer is 1, and nothing if it is not. */
+static void try_choice(uint32_t k, const uint32_t *p, size_t m, const uint32_t *t, size_t n, size_t start, size_t cap,
+                       int64_t answer, const uint32_t *choice)
+{
+    try_at("bound_choice", breakwarp_bound_choice, k, p, m, t, n, start, cap, answer, choice, answer == 1 ? m : 0);
 }
 
 /* With every room from none to more than enough: too little is refused whether the start is listed or not, and after all
@@ -672,64 +682,70 @@ static void worked_choices(void)
         try_choice_rooms(4, rows[r].p, rows[r].m, rows[r].t, rows[r].n, rows[r].start, rows[r].answer, rows[r].choice);
 }
 
+/* What a search refuses, with its place. */
+static const uint32_t bad[] = {1, 2, 8}, empty[] = {1, 0}, twice[] = {1, 8, 0}, good[] = {1, 2, 4};
+static const uint32_t behind[] = {MARK, MARK, 8, MARK, 16};
+static const struct {
+    uint32_t k;
+    const uint32_t *p;
+    size_t m;
+    const uint32_t *t;
+    size_t n;
+    int refusal, place;
+} refused[] = {
+    {0, good, 1, good, 3, BREAKWARP_REFUSED_K, 0},
+    {33, good, 1, good, 3, BREAKWARP_REFUSED_K, 0},
+    {UINT32_MAX, NULL, 0, bad, 3, BREAKWARP_REFUSED_K, 0},
+    {3, NULL, 0, good, 3, BREAKWARP_REFUSED_M, 0},
+    {3, NULL, 0, bad, 3, BREAKWARP_REFUSED_M, 0},
+    {3, bad, 3, good, 3, BREAKWARP_REFUSED_PATTERN, 2},
+    {3, empty, 2, good, 3, BREAKWARP_REFUSED_PATTERN, 1},
+    {3, empty, 2, bad, 3, BREAKWARP_REFUSED_PATTERN, 1},
+    {3, empty + 1, 1, behind, 5, BREAKWARP_REFUSED_PATTERN, 0},
+    {1, good + 1, 1, good, 1, BREAKWARP_REFUSED_PATTERN, 0},
+    {3, twice, 3, good, 3, BREAKWARP_REFUSED_PATTERN, 1},
+    {3, good, 1, bad, 3, BREAKWARP_REFUSED_TEXT, 2},
+    {3, good, 2, bad, 3, BREAKWARP_REFUSED_TEXT, 2},
+    {3, good, 1, twice, 3, BREAKWARP_REFUSED_TEXT, 1},
+    {3, good, 1, behind, 5, BREAKWARP_REFUSED_TEXT, 2},
+    {2, good, 1, good, 3, BREAKWARP_REFUSED_TEXT, 2},
+};
+
+/* Starts at which these are asked about: right ones and wrong ones. */
+static const size_t any_starts[] = {0, 1, 3, 65536, SIZE_MAX};
+
 /* 1 to 5 of both calls, in their order and with their places; at one start 16 and 8 come after them, and the whole text
  * is checked, not only what stands under the pattern. */
 static void bound_refusals(void)
 {
-    static const uint32_t bad[] = {1, 2, 8}, empty[] = {1, 0}, twice[] = {1, 8, 0}, good[] = {1, 2, 4};
-    static const uint32_t behind[] = {MARK, MARK, 8, MARK, 16};
-    static const struct {
-        uint32_t k;
-        const uint32_t *p;
-        size_t m;
-        const uint32_t *t;
-        size_t n;
-        int refusal, place;
-    } rows[] = {
-        {0, good, 1, good, 3, BREAKWARP_REFUSED_K, 0},
-        {33, good, 1, good, 3, BREAKWARP_REFUSED_K, 0},
-        {UINT32_MAX, NULL, 0, bad, 3, BREAKWARP_REFUSED_K, 0},
-        {3, NULL, 0, good, 3, BREAKWARP_REFUSED_M, 0},
-        {3, NULL, 0, bad, 3, BREAKWARP_REFUSED_M, 0},
-        {3, bad, 3, good, 3, BREAKWARP_REFUSED_PATTERN, 2},
-        {3, empty, 2, good, 3, BREAKWARP_REFUSED_PATTERN, 1},
-        {3, empty, 2, bad, 3, BREAKWARP_REFUSED_PATTERN, 1},
-        {3, empty + 1, 1, behind, 5, BREAKWARP_REFUSED_PATTERN, 0},
-        {1, good + 1, 1, good, 1, BREAKWARP_REFUSED_PATTERN, 0},
-        {3, twice, 3, good, 3, BREAKWARP_REFUSED_PATTERN, 1},
-        {3, good, 1, bad, 3, BREAKWARP_REFUSED_TEXT, 2},
-        {3, good, 2, bad, 3, BREAKWARP_REFUSED_TEXT, 2},
-        {3, good, 1, twice, 3, BREAKWARP_REFUSED_TEXT, 1},
-        {3, good, 1, behind, 5, BREAKWARP_REFUSED_TEXT, 2},
-        {2, good, 1, good, 3, BREAKWARP_REFUSED_TEXT, 2},
-    };
-    static const size_t starts[] = {0, 1, 3, 65536, SIZE_MAX};
-    for (size_t r = 0; r < LENGTH(rows); r++) {
-        int64_t answer = AT(rows[r].refusal, rows[r].place);
+    for (size_t r = 0; r < LENGTH(refused); r++) {
+        int64_t answer = AT(refused[r].refusal, refused[r].place);
         for (size_t cap = 0; cap <= 3; cap++)
-            try_bound(rows[r].k, rows[r].p, rows[r].m, rows[r].t, rows[r].n, cap, answer, NULL);
-        for (size_t s = 0; s < LENGTH(starts); s++)
-            try_choice_rooms(rows[r].k, rows[r].p, rows[r].m, rows[r].t, rows[r].n, starts[s], answer, NULL);
+            try_bound(refused[r].k, refused[r].p, refused[r].m, refused[r].t, refused[r].n, cap, answer, NULL);
+        for (size_t s = 0; s < LENGTH(any_starts); s++)
+            try_choice_rooms(refused[r].k, refused[r].p, refused[r].m, refused[r].t, refused[r].n, any_starts[s], answer,
+                             NULL);
     }
 }
 
-/* Starts from the last one on, to the largest there are: with some of these the sum with m is small again if it wraps,
- * and some have a right start in their lower bits. */
+/* Starts behind the last one of a pattern of 3 letters in a text of 5, to the largest there are: with some of these the sum
+ * with m is small again if it wraps, and some have a right start in their lower bits. */
+static const size_t beyond[] = {
+    3, 4, 5, 6, 65535, 65536, UINT32_MAX, (size_t)UINT32_MAX + 1, (size_t)UINT32_MAX + 3, SIZE_MAX / 2,
+    SIZE_MAX / 2 + 3, SIZE_MAX - 3, SIZE_MAX - 2, SIZE_MAX - 1, SIZE_MAX,
+};
+
 static void far_starts(void)
 {
     static const uint32_t p[] = {3, 3, 2}, t[] = {2, 1, 3, 2, 2}, first[] = {0, 0, 1}, due[] = {1, 1, 1};
-    static const size_t starts[] = {
-        3, 4, 5, 6, 65535, 65536, UINT32_MAX, (size_t)UINT32_MAX + 1, (size_t)UINT32_MAX + 3, SIZE_MAX / 2,
-        SIZE_MAX / 2 + 3, SIZE_MAX - 3, SIZE_MAX - 2, SIZE_MAX - 1, SIZE_MAX,
-    };
     try_choice_rooms(2, p, 3, t, 5, 0, 0, NULL);
     try_choice_rooms(2, p, 3, t, 5, 1, 1, first);
     try_choice_rooms(2, p, 3, t, 5, 2, 1, due);
-    for (size_t s = 0; s < LENGTH(starts); s++) {
-        try_choice_rooms(2, p, 3, t, 5, starts[s], -BREAKWARP_REFUSED_START, NULL);
+    for (size_t s = 0; s < LENGTH(beyond); s++) {
+        try_choice_rooms(2, p, 3, t, 5, beyond[s], -BREAKWARP_REFUSED_START, NULL);
         /* A pattern longer than the text, and no text: no start is right, not 0 either. */
-        try_choice_rooms(2, p, 3, t, 2, starts[s], -BREAKWARP_REFUSED_START, NULL);
-        try_choice_rooms(2, p, 3, NULL, 0, starts[s], -BREAKWARP_REFUSED_START, NULL);
+        try_choice_rooms(2, p, 3, t, 2, beyond[s], -BREAKWARP_REFUSED_START, NULL);
+        try_choice_rooms(2, p, 3, NULL, 0, beyond[s], -BREAKWARP_REFUSED_START, NULL);
     }
     try_choice_rooms(2, p, 3, t, 2, 0, -BREAKWARP_REFUSED_START, NULL);
     try_choice_rooms(2, p, 3, NULL, 0, 0, -BREAKWARP_REFUSED_START, NULL);
@@ -980,6 +996,243 @@ static void bound_mode(void)
     far_bounds();
     null_bounds();
     bounds_beside_brute();
+}
+
+/* ---- what is shared ---- */
+
+/* One call. Where it is taken it answers m, and writes as many sets. */
+static void try_reasons(uint32_t k, const uint32_t *p, size_t m, const uint32_t *t, size_t n, size_t start, size_t cap,
+                        int64_t refusal, const uint32_t *sets)
+{
+    try_at("reasons", breakwarp_reasons, k, p, m, t, n, start, cap, refusal < 0 ? refusal : (int64_t)m, sets,
+           refusal < 0 ? 0 : m);
+}
+
+/* With every room from none to more than enough: too little is refused whether the start is a hit or not, and after all
+ * that is refused besides. */
+static void try_reasons_rooms(uint32_t k, const uint32_t *p, size_t m, const uint32_t *t, size_t n, size_t start,
+                              int64_t refusal, const uint32_t *sets)
+{
+    for (size_t cap = 0; cap <= m + 2; cap++)
+        try_reasons(k, p, m, t, n, start, cap, refusal == 0 && cap < m ? -BREAKWARP_REFUSED_ROOM : refusal, sets);
+}
+
+/* Over aen: a is 1, e 2, n 4. */
+static void worked_reasons(void)
+{
+    static const uint32_t all[] = {7, 7, 7}, a[] = {1}, e[] = {2}, ae[] = {3}, ae_an[] = {3, 5};
+    static const uint32_t cut[] = {1, 7, MARK, 6}, doubts[] = {4, 6, 5, 2};
+    static const struct {
+        const uint32_t *p;
+        size_t m;
+        const uint32_t *t;
+        size_t n, start;
+        int64_t refusal;
+        uint32_t sets[4];
+    } rows[] = {
+        {anna, 4, page, 12, 0, 0, {1, 4, 4, 1}},
+        {anna, 4, page, 12, 3, 0, {1, 4, 4, 1}},
+        {anna, 4, page, 12, 8, 0, {1, 4, 4, 1}},
+        /* No hit: every set is written, also behind the first empty one. */
+        {anna, 4, page, 12, 1, 0, {0, 4, 0, 0}},
+        {anna, 4, page, 12, 5, 0, {0, 0, 4, 1}},
+        {anna, 4, page, 12, 9, -BREAKWARP_REFUSED_START, {0}},
+        {anna, 4, page, 12, 12, -BREAKWARP_REFUSED_START, {0}},
+        /* A name that a mark cuts, and the whole one behind it. */
+        {anna, 4, entries, 9, 0, 0, {1, 4, 0, 0}},
+        {anna, 4, entries, 9, 2, 0, {0, 4, 0, 1}},
+        {anna, 4, entries, 9, 5, 0, {1, 4, 4, 1}},
+        /* `*` over [ae], [ae] over `*`, `*` over a mark, `e` over `a`. */
+        {all, 1, ae, 1, 0, 0, {3}},
+        {ae, 1, all, 1, 0, 0, {3}},
+        {all, 1, cut + 2, 1, 0, 0, {0}},
+        {e, 1, a, 1, 0, 0, {0}},
+        {all, 3, cut, 4, 1, 0, {7, 0, 6}},
+        {ae_an, 2, doubts, 4, 1, 0, {2, 5}},
+        {ae_an, 2, doubts, 4, 2, 0, {1, 0}},
+        {anna, 4, page, 3, 0, -BREAKWARP_REFUSED_START, {0}},
+        {anna, 4, NULL, 0, 0, -BREAKWARP_REFUSED_START, {0}},
+    };
+    for (size_t r = 0; r < LENGTH(rows); r++)
+        try_reasons_rooms(3, rows[r].p, rows[r].m, rows[r].t, rows[r].n, rows[r].start, rows[r].refusal, rows[r].sets);
+}
+
+/* 1 to 5 in their order and with their places, before 16 and 8; a wrong letter that is not under the pattern too. */
+static void reasons_refusals(void)
+{
+    static const uint32_t ahead[] = {8, 1, 4};
+    for (size_t r = 0; r < LENGTH(refused); r++)
+        for (size_t s = 0; s < LENGTH(any_starts); s++)
+            try_reasons_rooms(refused[r].k, refused[r].p, refused[r].m, refused[r].t, refused[r].n, any_starts[s],
+                              AT(refused[r].refusal, refused[r].place), NULL);
+    /* Before the pattern's place, and behind it. */
+    try_reasons_rooms(3, anna, 2, ahead, 3, 1, AT(BREAKWARP_REFUSED_TEXT, 0), NULL);
+    try_reasons_rooms(3, anna, 1, twice, 2, 0, AT(BREAKWARP_REFUSED_TEXT, 1), NULL);
+}
+
+static void far_reasons(void)
+{
+    static const uint32_t p[] = {3, 3, 2}, t[] = {2, 1, 3, 2, 2}, first[] = {2, 1, 2}, last[] = {3, 2, 2};
+    try_reasons_rooms(2, p, 3, t, 5, 0, 0, first);
+    try_reasons_rooms(2, p, 3, t, 5, 2, 0, last);
+    for (size_t s = 0; s < LENGTH(beyond); s++) {
+        try_reasons_rooms(2, p, 3, t, 5, beyond[s], -BREAKWARP_REFUSED_START, NULL);
+        try_reasons_rooms(2, p, 3, t, 2, beyond[s], -BREAKWARP_REFUSED_START, NULL);
+        try_reasons_rooms(2, p, 3, NULL, 0, beyond[s], -BREAKWARP_REFUSED_START, NULL);
+    }
+}
+
+/* Every base letter of 32 alone: over itself, over all, over all others, over a mark; all and all others over it; all over
+ * marks. */
+static void each_base_letter(void)
+{
+    uint32_t one[32], all[32], others[32], nothing[32];
+    for (uint32_t b = 0; b < 32; b++) {
+        one[b] = UINT32_C(1) << b;
+        all[b] = UINT32_MAX;
+        others[b] = ~one[b];
+        nothing[b] = MARK;
+    }
+    try_reasons(32, one, 32, one, 32, 0, 32, 0, one);
+    try_reasons(32, one, 32, all, 32, 0, 33, 0, one);
+    try_reasons(32, all, 32, one, 32, 0, 34, 0, one);
+    try_reasons(32, others, 32, all, 32, 0, 32, 0, others);
+    try_reasons(32, others, 32, one, 32, 0, 32, 0, nothing);
+    try_reasons(32, one, 32, others, 32, 0, 32, 0, nothing);
+    try_reasons(32, one, 32, nothing, 32, 0, 32, 0, nothing);
+    try_reasons(32, all, 32, nothing, 32, 0, 32, 0, nothing);
+    /* With one base letter less the last one is wrong, and with each k the first one beyond it. */
+    try_reasons(31, one, 32, all, 32, 0, 32, AT(BREAKWARP_REFUSED_PATTERN, 31), NULL);
+    for (uint32_t k = 1; k < 32; k++) {
+        try_reasons(k, one, k, one, k, 0, k, 0, one);
+        try_reasons(k, one, k + 1, one, k, 0, k, AT(BREAKWARP_REFUSED_PATTERN, k), NULL);
+        try_reasons(k, one, k, one, k + 1, 0, k, AT(BREAKWARP_REFUSED_TEXT, k), NULL);
+    }
+}
+
+/* The largest text, the longest pattern, the largest alphabet, and one more of each; the last start and the next one. */
+static void reasons_limits(void)
+{
+    uint32_t *text = alike(BREAKWARP_MAX_N + 1, UINT32_C(3) << 30), *pattern = alike(65, UINT32_C(1) << 31);
+    uint32_t *due = alike(64, UINT32_C(1) << 31);
+    try_reasons(32, pattern, 64, text, 65536, 0, 64, 0, due);
+    try_reasons(32, pattern, 64, text, 65536, 65472, 64, 0, due);
+    try_reasons(32, pattern, 64, text, 65536, 65472, 65, 0, due);
+    try_reasons(32, pattern, 64, text, 65536, 65472, 63, -BREAKWARP_REFUSED_ROOM, NULL);
+    try_reasons(32, pattern, 64, text, 65536, 65473, 64, -BREAKWARP_REFUSED_START, NULL);
+    try_reasons(32, pattern, 64, text, 65536, 65473, 63, -BREAKWARP_REFUSED_START, NULL);
+    try_reasons(32, pattern, 1, text, 65536, 65535, 3, 0, due);
+    try_reasons(32, pattern, 1, text, 65536, 65536, 0, -BREAKWARP_REFUSED_START, NULL);
+    try_reasons(32, pattern, 64, text, 65537, 65473, 64, -BREAKWARP_REFUSED_N, NULL);
+    try_reasons(32, pattern, 65, text, 65537, 0, 65, -BREAKWARP_REFUSED_M, NULL);
+    try_reasons(31, pattern, 64, text, 65536, 65473, 0, -BREAKWARP_REFUSED_PATTERN, NULL);
+    try_reasons(33, pattern, 65, text, 65537, 0, 65, -BREAKWARP_REFUSED_K, NULL);
+    /* Sets of their own at the last start, the last of them over a mark. */
+    for (uint32_t j = 0; j < 64; j++) {
+        pattern[j] = UINT32_C(1) << j % 32 | UINT32_C(1) << 31 | j;
+        text[65472 + j] = j == 63 ? MARK : UINT32_C(1) << j % 32 | j * 3;
+        due[j] = pattern[j] & text[65472 + j];
+    }
+    try_reasons(32, pattern, 64, text, 65536, 65472, 64, 0, due);
+    try_reasons(32, pattern, 64, text, 65536, 65472, 65, 0, due);
+    free(text);
+    free(pattern);
+    free(due);
+}
+
+/* The farthest places: the last letter of the longest pattern, and of the largest text, behind nothing but marks. */
+static void farthest_reasons(void)
+{
+    static const uint32_t a[] = {1}, last[] = {UINT32_C(1) << 31}, nothing[] = {0};
+    uint32_t *text = alike(BREAKWARP_MAX_N, MARK), *pattern = alike(BREAKWARP_MAX_M, 1);
+    text[BREAKWARP_MAX_N - 1] = last[0];
+    pattern[BREAKWARP_MAX_M - 1] = MARK;
+    try_reasons(32, pattern, 64, text, 65536, SIZE_MAX, 0, AT(BREAKWARP_REFUSED_PATTERN, 63), NULL);
+    try_reasons(31, a, 1, text, 65536, SIZE_MAX, 0, AT(BREAKWARP_REFUSED_TEXT, 65535), NULL);
+    try_reasons(31, a, 1, text, 65536, 0, 1, AT(BREAKWARP_REFUSED_TEXT, 65535), NULL);
+    try_reasons(32, last, 1, text, 65536, 65535, 1, 0, last);
+    try_reasons(32, last, 1, text, 65536, 65534, 1, 0, nothing);
+    free(text);
+    free(pattern);
+}
+
+/* Slices of length 0 with null pointers. */
+static void null_reasons(void)
+{
+    static const uint32_t a[] = {1}, e[] = {2};
+    snprintf(about, sizeof about, "reasons with null pointers");
+    same("no text, no sets", breakwarp_reasons(3, a, 1, NULL, 0, 0, NULL, 0), -BREAKWARP_REFUSED_START);
+    same("behind the text", breakwarp_reasons(3, a, 1, a, 1, 1, NULL, 0), -BREAKWARP_REFUSED_START);
+    same("far behind it", breakwarp_reasons(3, a, 1, a, 1, SIZE_MAX, NULL, 0), -BREAKWARP_REFUSED_START);
+    same("no room", breakwarp_reasons(3, a, 1, a, 1, 0, NULL, 0), -BREAKWARP_REFUSED_ROOM);
+    same("no room, no hit", breakwarp_reasons(3, a, 1, e, 1, 0, NULL, 0), -BREAKWARP_REFUSED_ROOM);
+    same("no pattern", breakwarp_reasons(3, NULL, 0, NULL, 0, 0, NULL, 0), -BREAKWARP_REFUSED_M);
+    same("no alphabet", breakwarp_reasons(0, NULL, 0, NULL, 0, 0, NULL, 0), -BREAKWARP_REFUSED_K);
+}
+
+/* What two letters have in common, base letter by base letter. */
+static uint32_t in_both(uint32_t a, uint32_t b)
+{
+    uint32_t set = 0;
+    for (uint32_t letter = 0; letter < 32; letter++)
+        if ((a >> letter & 1) == 1 && (b >> letter & 1) == 1)
+            set |= UINT32_C(1) << letter;
+    return set;
+}
+
+/* One start of a random pair: brute has it as a hit exactly if no set is empty, and what the bound mode chooses is one of
+ * the letters that are shared. */
+static void reasons_at(uint32_t k, const uint32_t *pattern, size_t m, const uint32_t *text, size_t n, size_t start,
+                       int is_hit)
+{
+    uint32_t due[8] = {0}, choice[8] = {0};
+    size_t shared = 0;
+    for (size_t j = 0; start + m <= n && j < m; j++) {
+        due[j] = in_both(pattern[j], text[start + j]);
+        shared += due[j] != 0;
+    }
+    try_reasons(k, pattern, m, text, n, start, m + below(3), start + m > n ? -BREAKWARP_REFUSED_START : 0, due);
+    same("no set is empty", shared == m, is_hit);
+    if (breakwarp_bound_choice(k, pattern, m, text, n, start, choice, LENGTH(choice)) == 1)
+        for (size_t j = 0; j < m; j++)
+            same("the choice is shared", due[j] >> choice[j] & 1, 1);
+}
+
+/* Beside brute on random pairs, at every start and two behind the text. */
+static void reasons_beside_brute(void)
+{
+    enum { PAIRS = 240, N = 24 };
+    size_t met = 0, missed = 0;
+    for (size_t pair = 0; pair < PAIRS; pair++) {
+        uint32_t k = 1 + below(pair % 4 == 0 ? 32 : 3), pattern[8], text[N], hits[N];
+        size_t m = 1 + below(pair % 8 == 0 ? LENGTH(pattern) : 3), n = below(N + 1), hit = 0;
+        uint64_t work[3];
+        draw(pattern, m, k);
+        draw_text(text, n, k);
+        size_t all = (size_t)breakwarp_brute(k, pattern, m, text, n, hits, N, work, 3);
+        for (size_t start = 0; start <= n + 1; start++) {
+            int is_hit = hit < all && hits[hit] == start;
+            reasons_at(k, pattern, m, text, n, start, is_hit);
+            hit += (size_t)is_hit;
+        }
+        met += all;
+        missed += n >= m ? n - m + 1 - all : 0;
+    }
+    snprintf(about, sizeof about, "reasons beside brute");
+    same("hits, two a pair at least", met >= 2 * PAIRS, 1);
+    same("other starts, two a pair at least", missed >= 2 * PAIRS, 1);
+}
+
+static void reasons(void)
+{
+    worked_reasons();
+    reasons_refusals();
+    far_reasons();
+    each_base_letter();
+    reasons_limits();
+    farthest_reasons();
+    null_reasons();
+    reasons_beside_brute();
 }
 
 /* ---- products ---- */
@@ -1415,6 +1668,7 @@ int main(void)
     far_firsts();
     firsts_beside_brute();
     bound_mode();
+    reasons();
     conversions();
     marked_conversions();
     long_conversions();

@@ -45,6 +45,13 @@ int main()
         std::puts("c++: ** over [ae][en] is not bound as it should be");
         return 1;
     }
+    std::array<std::uint32_t, 2> sets{};
+    const auto shared = breakwarp_reasons(3, unsure.data(), unsure.size(), under.data(), under.size(), 0, sets.data(),
+                                          sets.size());
+    if (shared != 2 || sets != under) {
+        std::puts("c++: ** over [ae][en] does not share what it should");
+        return 1;
+    }
     const std::array<std::uint32_t, 3> wrong{1, 2, 8};
     const auto refused = breakwarp_brute(3, pattern.data(), pattern.size(), wrong.data(), wrong.size(), hits.data(),
                                          hits.size(), work.data(), work.size());
@@ -53,6 +60,6 @@ int main()
         std::puts("c++: a wrong text letter is not refused at its place");
         return 1;
     }
-    std::puts("c++: 5 checks");
+    std::puts("c++: 6 checks");
     return 0;
 }

@@ -6,7 +6,7 @@
 //! laws in tests/ hold the one against the other.
 
 use crate::letters::{meets, members};
-use crate::refusals::{check_room, check_search, refuse, Refusal};
+use crate::refusals::{check_at, check_search, Refusal};
 
 /// One base letter for each set that stands there, as pairs of set and letter.
 pub type Choice = Vec<(u32, u32)>;
@@ -82,22 +82,14 @@ pub fn bound_starts(pattern: &[u32], text: &[u32]) -> Vec<u32> {
     (0..=text.len()).filter(|i| choice(pattern, text, *i).is_some()).map(|i| i as u32).collect()
 }
 
-/// Refusal 16: the start and the pattern's length exceed the text's. A sum that no usize holds exceeds it too.
-pub fn check_start(start: usize, m: usize, n: usize) -> Result<(), Refusal> {
-    match start.checked_add(m) {
-        Some(end) if end <= n => Ok(()),
-        _ => refuse(16, 0),
-    }
-}
-
 /// The public call for the list: the checks of a search, then all starts.
 pub fn bound(k: u32, pattern: &[u32], text: &[u32]) -> Result<Vec<u32>, Refusal> {
     check_search(k, pattern, text)?;
     Ok(bound_starts(pattern, text))
 }
 
-/// The public call for one start, into room for `lent` numbers: the checks of a search, then the start, then the room,
-/// whether the start is bound-listed or not.
+/// The public call for one start, into room for `lent` numbers: the checks come first, whether the start is bound-listed
+/// or not.
 pub fn bound_choice(
     k: u32,
     pattern: &[u32],
@@ -105,8 +97,6 @@ pub fn bound_choice(
     start: usize,
     lent: usize,
 ) -> Result<Option<Vec<u32>>, Refusal> {
-    check_search(k, pattern, text)?;
-    check_start(start, pattern.len(), text.len())?;
-    check_room(pattern.len(), lent)?;
+    check_at(k, pattern, text, start, lent)?;
     Ok(choice(pattern, text, start))
 }

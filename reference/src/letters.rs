@@ -4,9 +4,14 @@
 /// single, since it has no member; and it is not unsure, since nothing about it is in doubt.
 pub const MARK: u32 = 0;
 
+/// Is base letter b a member of the set?
+pub fn member(letter: u32, b: u32) -> bool {
+    letter >> b & 1 == 1
+}
+
 /// The base letters of a set, ascending.
 pub fn members(letter: u32) -> impl Iterator<Item = u32> {
-    (0..32).filter(move |b| letter >> b & 1 == 1)
+    (0..32).filter(move |b| member(letter, *b))
 }
 
 /// One member, no more and no less.

@@ -9,6 +9,7 @@ pub mod engines;
 pub mod first;
 pub mod letters;
 pub mod products;
+pub mod reasons;
 pub mod refusals;
 pub mod report;
 pub mod sheet;

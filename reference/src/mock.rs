@@ -5,6 +5,7 @@ use crate::bound::{bound, bound_choice};
 use crate::engines::{search, Engine};
 use crate::first::first;
 use crate::products::{from_products, products_meet, to_products};
+use crate::reasons::reasons;
 use crate::refusals::{check_room, Refusal};
 use crate::report::report;
 use crate::sheet::{read, write, Room};
@@ -118,6 +119,26 @@ pub unsafe extern "C" fn breakwarp_bound_choice(
         usize::from(chosen.is_some())
     });
     answer(answered)
+}
+
+/// # Safety
+/// Every pointer is valid for its length, as c/breakwarp.h asks.
+#[no_mangle]
+pub unsafe extern "C" fn breakwarp_reasons(
+    k: u32,
+    pattern: *const u32,
+    m: usize,
+    text: *const u32,
+    n: usize,
+    start: usize,
+    sets: *mut u32,
+    cap: usize,
+) -> i64 {
+    let written = reasons(k, lent(pattern, m), lent(text, n), start, cap).map(|shared| {
+        put(sets, cap, &shared);
+        shared.len()
+    });
+    answer(written)
 }
 
 /// # Safety

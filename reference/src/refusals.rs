@@ -88,6 +88,14 @@ pub fn check_room(needed: usize, lent: usize) -> Result<(), Refusal> {
     }
 }
 
+/// Refusal 16: the start and the pattern's length exceed the text's. A sum that no usize holds exceeds it too.
+pub fn check_start(start: usize, m: usize, n: usize) -> Result<(), Refusal> {
+    match start.checked_add(m) {
+        Some(end) if end <= n => Ok(()),
+        _ => refuse(16, 0),
+    }
+}
+
 /// What a search checks, in its order.
 pub fn check_search(k: u32, pattern: &[u32], text: &[u32]) -> Result<(), Refusal> {
     check_k(k)?;
@@ -95,4 +103,12 @@ pub fn check_search(k: u32, pattern: &[u32], text: &[u32]) -> Result<(), Refusal
     check_n(text.len())?;
     check_pattern(k, pattern)?;
     check_text(k, text)
+}
+
+/// What a call about one start checks, in its order, where it is lent room for `lent` values and may write one for each
+/// pattern letter: what a search checks, then the start, then the room, whatever there is at the start.
+pub fn check_at(k: u32, pattern: &[u32], text: &[u32], start: usize, lent: usize) -> Result<(), Refusal> {
+    check_search(k, pattern, text)?;
+    check_start(start, pattern.len(), text.len())?;
+    check_room(pattern.len(), lent)
 }

@@ -5,6 +5,7 @@ use reference::engines::{r, search, Engine, Found, Work, ENGINES};
 use reference::first::{first, First};
 use reference::letters::{hits, meets, single, MARK};
 use reference::products::{from_products, product, products_meet, to_products};
+use reference::reasons::{reasons, shared};
 use reference::refusals::{Refusal, MAX_N};
 use reference::report::{printed, report};
 use reference::sheet::{read, write, Room};
@@ -240,6 +241,67 @@ fn refused_choices() {
     assert_eq!(bound(4, &[1], &[1, MARK, 16]), Err(Refusal { number: 5, place: 2 }));
     assert_eq!(bound(0, &[], &[]), Err(Refusal { number: 1, place: 0 }));
     assert_eq!(bound(4, &[1], &vec![1; MAX_N + 1]), Err(Refusal { number: 3, place: 0 }));
+}
+
+/// What is shared at a start, over aen: a is 1, e 2, n 4.
+#[test]
+fn the_reasons() {
+    let page = "annann[ae]nann[an]";
+    let rows: [(&str, &str, usize, &[u32]); 13] = [
+        ("anna", page, 0, &[1, 4, 4, 1]),
+        ("anna", page, 3, &[1, 4, 4, 1]),
+        ("anna", page, 8, &[1, 4, 4, 1]),
+        // No hit: every set is written, also behind the first empty one.
+        ("anna", page, 1, &[0, 4, 0, 0]),
+        ("anna", page, 5, &[0, 0, 4, 1]),
+        // A name that a mark cuts.
+        ("anna", "an|naanna", 0, &[1, 4, 0, 0]),
+        ("anna", "an|naanna", 5, &[1, 4, 4, 1]),
+        ("*", "[ae]", 0, &[3]),
+        ("[ae]", "*", 0, &[3]),
+        ("*", "|", 0, &[0]),
+        ("***", "*|[en]", 0, &[7, 0, 6]),
+        ("[ae][an]", "n[en][an]e", 1, &[2, 5]),
+        ("e", "a", 0, &[0]),
+    ];
+    for (pattern, text, start, due) in rows {
+        let (p, t) = (aen(pattern), aen(text));
+        for lent in p.len()..p.len() + 3 {
+            assert_eq!(reasons(3, &p, &t, start, lent), Ok(due.to_vec()), "{pattern} in {text} at {start}");
+        }
+    }
+    assert_eq!(shared(!0, 1 << 31), 1 << 31);
+    assert_eq!(shared(!0, !0), !0);
+    assert_eq!(shared(!0, MARK), MARK);
+}
+
+#[test]
+fn refused_reasons() {
+    let refused = |pattern: &[u32], text: &[u32], start, lent| {
+        reasons(3, pattern, text, start, lent).err().map(|r| (r.number, r.place))
+    };
+    let (p, t) = (aen("anna"), aen("annann[ae]nann[an]"));
+    assert_eq!(refused(&p, &t, 8, 4), None);
+    for start in [9, 10, 12, 13, 65_536, 1 << 32 | 3, usize::MAX - 4, usize::MAX - 3, usize::MAX] {
+        for lent in [0, 3, 4] {
+            assert_eq!(refused(&p, &t, start, lent), Some((16, 0)), "start {start}, {lent} lent");
+        }
+    }
+    // A short list is refused at a hit, as 3 is, and where there is none.
+    for (start, lent) in [(3, 0), (3, 3), (1, 0), (1, 3)] {
+        assert_eq!(refused(&p, &t, start, lent), Some((8, 0)));
+    }
+    assert_eq!(refused(&p, &t[..3], 0, 4), Some((16, 0)));
+    assert_eq!(refused(&p, &[], 0, 4), Some((16, 0)));
+    // What a search refuses comes before both, wherever the wrong letter stands.
+    assert_eq!(refused(&[1, MARK], &[1, 8], 9, 0), Some((4, 1)));
+    assert_eq!(refused(&[1], &[MARK, 1, 8], usize::MAX, 0), Some((5, 2)));
+    assert_eq!(refused(&[1], &[8, 1, 8], 1, 1), Some((5, 0)));
+    assert_eq!(refused(&[], &[8], 9, 0), Some((2, 0)));
+    assert_eq!(refused(&[1; 65], &[8], 9, 0), Some((2, 0)));
+    assert_eq!(refused(&[MARK], &vec![8; MAX_N + 1], 9, 0), Some((3, 0)));
+    assert_eq!(reasons(0, &[], &[], 0, 0), Err(Refusal { number: 1, place: 0 }));
+    assert_eq!(reasons(33, &[1], &[1], 0, 1), Err(Refusal { number: 1, place: 0 }));
 }
 
 #[test]

@@ -6,6 +6,7 @@ use reference::engines::{Engine, Work, ENGINES};
 use reference::first::first_hit;
 use reference::letters::{hit, hits, meets, members, single, whole, MARK};
 use reference::products::{from_products, is_product, letter, product, products_meet};
+use reference::reasons::{reasons_at, shared};
 use reference::sheet::{begins_letter, begins_letter_line, bytes, read, spelling, Line, Room, Sheet};
 use std::collections::HashSet;
 
@@ -418,6 +419,110 @@ fn two_bound_entries() {
         let (first, second) = (random.entries(k, a, 2 * m + 2), random.entries(k, b, 2 * m + 2));
         entries_are_bound_apart(&pattern, &first, &second);
     }
+}
+
+/// A base letter is in the set of a position exactly if it is in both letters there, and none but these are; the start is
+/// a hit exactly if no set is empty.
+fn reasons_are_right(pattern: &[u32], text: &[u32], start: usize) {
+    let sets = reasons_at(pattern, text, start);
+    assert_eq!(sets.len(), pattern.len());
+    for (j, set) in sets.iter().enumerate() {
+        let due: Vec<u32> = (0..32).filter(|b| pattern[j] & text[start + j] & 1 << b != 0).collect();
+        assert_eq!(members(*set).collect::<Vec<_>>(), due, "{pattern:?} in {text:?} at {start}, position {j}");
+    }
+    let all = sets.iter().all(|set| *set != 0);
+    assert_eq!(hit(pattern, text, start), all, "{pattern:?} in {text:?} at {start}");
+}
+
+#[test]
+fn a_start_is_a_hit_exactly_if_no_shared_set_is_empty() {
+    let texts = up_to(&SETS_AND_MARK, 6);
+    for pattern in &patterns(&SETS, 3) {
+        for text in &texts {
+            let starts = (text.len() + 1).saturating_sub(pattern.len());
+            (0..starts).for_each(|start| reasons_are_right(pattern, text, start));
+        }
+    }
+    for (k, longest) in [(1, 4), (3, 2), (4, 2)] {
+        each_window(k, longest, |pattern, under| reasons_are_right(pattern, under, 0));
+    }
+}
+
+/// Random pairs of any k, marks in the text, at every start.
+#[test]
+fn random_reasons() {
+    let mut random = Random(4);
+    let (mut met, mut missed) = (0, 0);
+    for round in 0..4_000 {
+        let k = [1, 2, 3, 9, 31, 32][round % 6];
+        let m = 1 + random.below(if round % 20 == 0 { 64 } else { 6 });
+        let (pattern, more) = (random.letters(k, m), random.below(12));
+        let text = random.entries(k, m + more, 2 * m + 2);
+        for start in 0..=more as usize {
+            reasons_are_right(&pattern, &text, start);
+            let is_hit = hit(&pattern, &text, start);
+            (met, missed) = (met + u32::from(is_hit), missed + u32::from(!is_hit));
+        }
+    }
+    // Neither is rare, or little would have been tried.
+    assert!(met > 4_000 && missed > 4_000, "{met} hits, {missed} others");
+}
+
+/// Which of the two letters is the pattern's does not matter; what a letter shares with itself is the letter, with all
+/// letters too, and with the mark nothing.
+#[test]
+fn what_is_shared_knows_no_side() {
+    random_windows(20_000, 12, |pattern, under| {
+        let (sets, over) = (reasons_at(pattern, under, 0), reasons_at(under, pattern, 0));
+        assert_eq!(over, sets, "{under:?} over {pattern:?}");
+        assert_eq!(reasons_at(pattern, pattern, 0), pattern);
+        assert_eq!(reasons_at(pattern, &vec![!0; pattern.len()], 0), pattern);
+        assert_eq!(reasons_at(pattern, &vec![MARK; pattern.len()], 0), vec![0; pattern.len()]);
+    });
+    for a in MARK..=whole(4) {
+        (MARK..=whole(4)).for_each(|b| assert_eq!(shared(a, b), shared(b, a), "{a} {b}"));
+    }
+}
+
+/// Where a start is bound-listed, what the choice gives to a position is one of the letters that are shared there.
+#[test]
+fn a_choice_is_made_of_what_is_shared() {
+    let mut listed = 0;
+    random_windows(20_000, 8, |pattern, under| {
+        let Some(choice) = choice(pattern, under, 0) else { return };
+        listed += 1;
+        for (letter, set) in choice.iter().zip(reasons_at(pattern, under, 0)) {
+            assert!(members(set).any(|b| b == *letter), "{pattern:?} over {under:?}: {letter} is not in {set}");
+        }
+    });
+    assert!(listed > 4_000, "{listed} listed");
+}
+
+/// Another letter in the text changes the set of its own position and no other, and of a start that it does not lie under
+/// none at all.
+#[test]
+fn a_letter_of_the_text_is_seen_at_its_own_position_alone() {
+    let texts = up_to(&SETS_AND_MARK, 4);
+    let mut changed = 0;
+    for pattern in &patterns(&SETS, 3) {
+        for text in texts.iter().filter(|text| text.len() >= pattern.len()) {
+            for (at, letter) in (0..text.len()).flat_map(|at| SETS_AND_MARK.map(|letter| (at, letter))) {
+                let mut other = text.clone();
+                other[at] = letter;
+                for start in 0..=text.len() - pattern.len() {
+                    let mut due = reasons_at(pattern, text, start);
+                    let position = at.checked_sub(start).filter(|j| *j < pattern.len());
+                    if let Some(j) = position {
+                        let before = due[j];
+                        due[j] = shared(pattern[j], letter);
+                        changed += u32::from(due[j] != before);
+                    }
+                    assert_eq!(reasons_at(pattern, &other, start), due, "{pattern:?} {text:?} {at} {start}");
+                }
+            }
+        }
+    }
+    assert!(changed > 0);
 }
 
 /// What may stand in a line: the mark in the text alone.

@@ -22,6 +22,7 @@ ghost use Rattle.hybrid.specs.Hybrid.{hybridRun};
 ghost use Rattle.codes.specs.Called.{Called};
 ghost use Rattle.first.specs.Called.{FirstCalled};
 ghost use Rattle.bound.specs.Called.{BoundCalled, ChoiceCalled};
+ghost use Rattle.reasons.specs.Reasons.{SharedCalled};
 ghost use Rattle.products.specs.Calls.{ToCalled, FromCalled, MeetCalled};
 ghost use Rattle.sheet.specs.Called.{ReadCalled};
 ghost use Rattle.writer.specs.Writer.{WriteCalled};
@@ -130,6 +131,19 @@ pub extern "C" fn breakwarp_bound_choice(
     ensures { λ r. do ⌜ ChoiceCalled (← ⟦Letter::MAX_K⟧ .entry) (← ⟦Pattern::MAX_M⟧ .entry) (← ⟦Text::MAX_N⟧ .entry) k (now (p .entry)) (now (t .entry)) start (now (choice .entry)) r (now (choice .exit)) ⌝ }
 {
     choice_called(k, p, t, start, choice)
+}
+
+#[no_mangle]
+pub extern "C" fn breakwarp_reasons(
+    k: u32,
+    p: &[u32],
+    t: &[u32],
+    start: usize,
+    sets: &mut [u32],
+) -> i64
+    ensures { λ r. do ⌜ SharedCalled (← ⟦Letter::MAX_K⟧ .entry) (← ⟦Pattern::MAX_M⟧ .entry) (← ⟦Text::MAX_N⟧ .entry) k (now (p .entry)) (now (t .entry)) start (now (sets .entry)) r (now (sets .exit)) ⌝ }
+{
+    reasons::c::called(k, p, t, start, sets)
 }
 
 #[no_mangle]

@@ -9,6 +9,7 @@ use crate::breakwarp_hybrid;
 use crate::breakwarp_kmp;
 use crate::breakwarp_products_meet;
 use crate::breakwarp_read_sheet;
+use crate::breakwarp_reasons;
 use crate::breakwarp_report;
 use crate::breakwarp_shiftand;
 use crate::breakwarp_sunday;
@@ -157,6 +158,15 @@ fn bound_choice_twice(
 {
     let first = breakwarp_bound_choice(k, p, t, start, a);
     let second = breakwarp_bound_choice(k, p, t, start, b);
+    Codes { first, second }
+}
+
+fn reasons_twice(k: u32, p: &[u32], t: &[u32], start: usize, a: &mut [u32], b: &mut [u32]) -> Codes
+    requires { ⌜ now a ≡ now b ⌝ }
+    ensures { λ r. ⌜ (r .first ≡ r .second) × (now (a .exit) ≡ now (b .exit)) ⌝ }
+{
+    let first = breakwarp_reasons(k, p, t, start, a);
+    let second = breakwarp_reasons(k, p, t, start, b);
     Codes { first, second }
 }
 

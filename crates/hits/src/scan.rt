@@ -1,7 +1,7 @@
 // A scan of a pattern's letters against the text, left to right or right to left. Its tests are one for each letter passed and one for the
 // letter that stopped it, so none is counted in the loop.
+use letters::letter::common;
 use letters::letter::lone;
-use letters::letter::meet;
 ghost use mathlib.Core.Path.{_≡_};
 ghost use mathlib.Core.Bool.{_&&_};
 ghost use Prim.Native.Nat.{_+_, _-_, _≤_};
@@ -16,7 +16,7 @@ pub fn reach_to(p: &[u32], t: &[u32], i: usize, a: usize, b: usize) -> usize
 {
     let mut j = a;
     while j < b {
-        if !meet(p[j], t[i + j]) {
+        if common(p[j], t[i + j]) == 0 {
             return j;
         }
         j += 1;
@@ -39,7 +39,7 @@ pub fn scan_back(p: &[u32], t: &[u32], whole: bool, i: usize, e: usize) -> Back
     while 0 < k {
         let j = k - 1;
         let c = t[i + j];
-        if !meet(p[j], c) {
+        if common(p[j], c) == 0 {
             return Back { left: k, sure };
         }
         k = j;

@@ -13,7 +13,7 @@ use inputs::checks::checked;
 use inputs::refusal::Answer;
 use inputs::refusal::Check;
 use letters::letter::Letter;
-use letters::letter::meet;
+use letters::letter::common;
 use letters::strings::Pattern;
 use letters::strings::Text;
 use pattern::masks::Masks;
@@ -94,7 +94,7 @@ fn step(
     ensures { λ r. ⌜ HybridTurns (hybridTurn (now (p .entry)) (now (t .entry)) a) (now (list .entry)) total r (now (list .exit)) ⌝ }
 {
     let m = p.len();
-    if meet(p[m - 1], t[a + m - 1]) {
+    if common(p[m - 1], t[a + m - 1]) != 0 {
         return steps_from(p, rows, t, a, list, total);
     }
     HybridTurned {

@@ -18,8 +18,8 @@ use inputs::checks::checked;
 use inputs::refusal::Answer;
 use inputs::refusal::Check;
 use letters::letter::Letter;
+use letters::letter::common;
 use letters::letter::lone;
-use letters::letter::meet;
 use letters::strings::Pattern;
 use letters::strings::Text;
 use letters::width::index;
@@ -62,7 +62,7 @@ fn scan_on(p: &[u32], t: &[u32], i: usize, r: usize, u: usize) -> Scanned
     let mut last = u;
     while j < p.len() {
         let c = t[i + j];
-        if !meet(p[j], c) {
+        if common(p[j], c) == 0 {
             return Scanned {
                 met: j,
                 unsure: last,

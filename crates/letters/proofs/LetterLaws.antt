@@ -1,4 +1,4 @@
--- Laws of letters: what meeting means, that it is symmetric and not transitive, what single and unsure mean, and that a letter is the mark, single or unsure. Assumes nothing.
+-- Laws of letters: what meeting means, and what a comparison tells of it; that it is symmetric and not transitive, what single and unsure mean, and that a letter is the mark, single or unsure. Assumes nothing.
 use mathlib.Core.Path.{_≡_, refl, sym, ap, _∙_, subst}
 use mathlib.Core.Bool.{Bool, true, false, not}
 use mathlib.Core.Logic.{_⊎_, inl, inr, ⊎-elim}
@@ -62,10 +62,22 @@ some-meets a b c x y =
     let m = member-digit c (shared a b) (member-shared a b c x y) in
     ap not (ne-eqb (shared a b) 0 (λ z. let d = ap (digit c) z ∙ digit-zero c in omega arith))
 
--- the entry mark meets nothing
+-- What a comparison answers, the shared set, tells whether the two meet: it is 0 exactly where they do not
+pub record Tells (a b s : ℕ) : Type 0 where
+  pub none : s ≡ 0 → meets a b ≡ false
+  pub some : (s ≡ 0 → ⊥) → meets a b ≡ true
+
+pub compared : {a b s : ℕ} → s ≡ shared a b → Tells a b s
+unfolding meets
+compared e = record { none = λ z. rw (sym e ∙ z); some = λ n. rw (ne-eqb _ 0 (λ z. n (e ∙ z))) }
+
+-- the entry mark shares nothing, and meets nothing
+pub shared-mark : (a : ℕ) → shared a 0 ≡ 0
+unfolding shared
+shared-mark a = and-zero-r a
+
 pub none-meets : (a : ℕ) → meets a 0 ≡ false
-unfolding meets shared
-none-meets a = rw (and-zero-r a)
+none-meets a = compared refl .none (shared-mark a)
 
 pub meets-none : (b : ℕ) → meets 0 b ≡ false
 unfolding meets shared

@@ -1,6 +1,6 @@
 // A letter as a set of base letters: bit b stands for base letter b.
 ghost use mathlib.Core.Path.{_≡_};
-ghost use Rattle.letters.specs.Letters.{member, shared, meets, single};
+ghost use Rattle.letters.specs.Letters.{member, shared, single};
 
 pub struct Letter {
     pub bits: u32,
@@ -34,13 +34,6 @@ impl Letter {
         Letter::of(self.bits & other.bits)
     }
 
-    // Whether the two share a member.
-    pub fn meets(self, other: Letter) -> bool
-        ensures { λ r. ⌜ r ≡ meets (self .bits) (other .bits) ⌝ }
-    {
-        self.shared(other).bits != 0
-    }
-
     // Whether there is one member, by the count of ones.
     pub fn is_single(self) -> bool
         ensures { λ r. ⌜ r ≡ single (self .bits) ⌝ }
@@ -49,14 +42,7 @@ impl Letter {
     }
 }
 
-// A test: whether a pattern letter and a text letter meet.
-pub fn meet(a: u32, b: u32) -> bool
-    ensures { λ r. ⌜ r ≡ meets a b ⌝ }
-{
-    Letter::of(a).meets(Letter::of(b))
-}
-
-// The common members of two letters.
+// Two letters compared: the members that they have in common, 0 where they do not meet. A test is one such comparison.
 pub fn common(a: u32, b: u32) -> u32
     ensures { λ r. ⌜ r ≡ shared a b ⌝ }
 {

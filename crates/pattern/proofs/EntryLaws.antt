@@ -11,7 +11,6 @@ use borrow.Author.Tests.{le-leb, ltb-true, ltb-false, not-true, not-false}
 use lib.Bits.{bitOr}
 use lib.Dec.{leb, ltb}
 use lib.ListN.{length, getD, List·getD-eq-default}
-use lib.Seq.{ext-getD}
 use Rattle.letters.specs.Digits.{digit}
 use Rattle.letters.specs.First.{firstWith}
 use Rattle.letters.specs.Letters.{member, single}
@@ -20,39 +19,15 @@ use Rattle.letters.proofs.Truth.{bool-cases, both-ways}
 use Rattle.letters.proofs.DigitLaws.{digit-zero, digit-lt, digit-or}
 use Rattle.letters.proofs.FirstLaws.{first-before, first-has}
 use Rattle.letters.proofs.LetterLaws.{member-digit, digit-member}
+use Rattle.lent.proofs.TableLaws.{at-table}
 use Rattle.hits.specs.Singles.{allSingle}
 use Rattle.hits.proofs.SingleLaws.{singles-none, singles-more, singles-upto}
 use Rattle.shifts.specs.Least.{least}
 use Rattle.hits.specs.Hits.{met}
 use Rattle.shifts.specs.Shift.{covers, selfFit}
 use Rattle.shifts.proofs.LeastLaws.{least-room}
-use Rattle.pattern.specs.Tables.{tableFrom, table, notSingle, surePrefix, maskIn, maskTable, shiftTable, frontShifts, endShifts, MaskTable, FrontShifts, EndShifts}
+use Rattle.pattern.specs.Tables.{notSingle, surePrefix, maskIn, maskTable, shiftTable, frontShifts, endShifts, MaskTable, FrontShifts, EndShifts}
 use Rattle.pattern.proofs.PowerLaws.{power-self, power-other}
-
--- a table by its entries
-module _ (f : ℕ → ℕ) where
-  from-length : (a n : ℕ) → length (tableFrom a n f) ≡ n
-  unfolding tableFrom
-  from-length a zero = refl
-  from-length a (suc n) = ap suc (from-length (suc a) n)
-
-  from-at : (a n b : ℕ) → b < n → getD (tableFrom a n f) b 0 ≡ f (a + b)
-  unfolding tableFrom
-  from-at a zero b l = absurd (omega arith)
-  from-at a (suc n) zero l = let z : a + 0 ≡ a = omega arith in rw z
-  from-at a (suc n) (suc b) l = let z : a + suc b ≡ suc a + b = omega arith in rw z (from-at (suc a) n b (omega arith))
-
-  at-table : (n b : ℕ) → b < n → getD (table n f) b 0 ≡ f b
-  unfolding table
-  at-table n b l = let z : 0 + b ≡ b = omega arith in from-at 0 n b l ∙ ap f z
-
-pub is-table : (n : ℕ) (f : ℕ → ℕ) (l : List ℕ) → length l ≡ n → ((b : ℕ) → b < n → getD l b 0 ≡ f b) → l ≡ table n f
-unfolding table
-is-table n f l e h = ext-getD 0 l (table n f) (e ∙ sym (from-length f 0 n)) (λ b k. h b (omega arith) ∙ sym (at-table f n b (omega arith)))
-
-pub same-table : (n : ℕ) (f g : ℕ → ℕ) → ((b : ℕ) → b < n → f b ≡ g b) → table n f ≡ table n g
-unfolding table
-same-table n f g h = is-table n g (table n f) (from-length f 0 n) (λ b l. at-table f n b l ∙ h b l)
 
 -- the masks, letter by letter and digit by digit
 module _ (P : List ℕ) where

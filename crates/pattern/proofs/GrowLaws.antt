@@ -11,8 +11,8 @@ use lib.Seq.{getD-set-same, getD-set-other}
 use Rattle.letters.specs.Letters.{member}
 use Rattle.letters.specs.Members.{membersFrom, members, walked}
 use Rattle.letters.proofs.Truth.{bool-cases}
-use Rattle.pattern.specs.Tables.{table}
-use Rattle.pattern.proofs.EntryLaws.{is-table}
+use Rattle.lent.specs.Table.{table}
+use Rattle.lent.proofs.TableLaws.{is-table}
 
 abbrev change : (ℕ → ℕ) → List ℕ → ℕ → List ℕ
 change g tab b = set tab b (g (getD tab b 0))

@@ -8,6 +8,7 @@ use borrow.Author.Tests.{leb-true, leb-false, le-leb, lt-leb, eqb-true, eqb-fals
 use lib.Dec.{leb, eqb}
 use lib.ListN.{length, getD}
 use Rattle.letters.proofs.Truth.{bool-cases}
+use Rattle.lent.proofs.TableLaws.{same-table}
 use Rattle.hits.specs.Hits.{met}
 use Rattle.hits.specs.Scans.{reach, back}
 use Rattle.shifts.specs.Least.{least}
@@ -20,7 +21,6 @@ use Rattle.hits.proofs.SingleLaws.{singles-part}
 use Rattle.hits.proofs.ScanLaws.{met-reach}
 use Rattle.pattern.specs.Far.{frontFar, endFar}
 use Rattle.pattern.specs.Tables.{shiftTable, FrontShifts, EndShifts}
-use Rattle.pattern.proofs.EntryLaws.{same-table}
 use Rattle.pattern.proofs.TableLaws.{enough}
 
 -- the least s that is far enough is the least that fits, where far says how far each stretch fits

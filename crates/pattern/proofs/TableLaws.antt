@@ -11,10 +11,10 @@ use lib.Dec.{leb}
 use lib.ListN.{length, getD, set, length-set, replicate, length-replicate, getD-replicate}
 use lib.Seq.{getD-set-same, getD-set-other}
 use Rattle.letters.proofs.Truth.{bool-cases}
+use Rattle.lent.proofs.TableLaws.{is-table}
 use Rattle.shifts.specs.Least.{least}
 use Rattle.shifts.proofs.LeastLaws.{least-ge, least-le, least-first, least-skip}
 use Rattle.pattern.specs.Tables.{shiftTable}
-use Rattle.pattern.proofs.EntryLaws.{is-table}
 
 -- a store at s, seen at k
 set-at : {R : Type 0} (s k : ℕ) → k < s + 1 → (k ≡ s → R) → (k < s → R) → R

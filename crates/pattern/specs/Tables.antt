@@ -1,6 +1,5 @@
 -- What is worked out from the pattern beforehand, and what the engines need of it.
 --
---   table n f           the n numbers f 0, f 1, ..
 --   surePrefix P        the length of P's longest prefix of single letters
 --   maskIn P b h        the places among P's first h whose letters have b, as a number: digit j stands for place j
 --   maskTable K P       for each of the first K base letters its row of places
@@ -13,22 +12,16 @@
 use Prim.Native.Nat.{ℕ, zero, suc, _+_, _-_, _^_, _≤_, _<_}
 use mathlib.Core.Path.{_≡_}
 use mathlib.Core.Bool.{Bool, cond, not}
-use mathlib.Core.List.{List, [], _∷_}
+use mathlib.Core.List.{List}
 use lib.Bits.{bitOr}
 use lib.Dec.{leb}
 use lib.ListN.{length, getD}
 use Rattle.letters.specs.Digits.{digit}
 use Rattle.letters.specs.First.{firstWith}
 use Rattle.letters.specs.Letters.{member, single}
+use Rattle.lent.specs.Table.{table}
 use Rattle.shifts.specs.Least.{least}
 use Rattle.shifts.specs.Shift.{selfFit}
-
-unfoldable pub tableFrom : ℕ → ℕ → (ℕ → ℕ) → List ℕ
-tableFrom a zero f = []
-tableFrom a (suc n) f = f a ∷ tableFrom (suc a) n f
-
-unfoldable pub table : ℕ → (ℕ → ℕ) → List ℕ
-table n f = tableFrom 0 n f
 
 -- a letter of more members than one, or of none
 abbrev pub notSingle : ℕ → Bool

@@ -1,6 +1,6 @@
 // The prepared pattern: what is worked out from its letters before the text is looked at. And R, which is found when it is asked for.
+use letters::letter::common;
 use letters::letter::lone;
-use letters::letter::meet;
 ghost use mathlib.Core.Path.{_≡_};
 ghost use Rattle.pattern.specs.Last.{afterR};
 ghost use Rattle.pattern.specs.Tables.{surePrefix};
@@ -50,7 +50,7 @@ pub fn after_r(p: &[u32], c: u32) -> usize
     while passed < p.len() {
         let h = p.len() - passed;
         let j = h - 1;
-        if meet(p[j], c) {
+        if common(p[j], c) != 0 {
             return h;
         }
         passed += 1;

@@ -1,4 +1,4 @@
-// The examples that are run: both sides of every limit, by all six engines, for the first hit alone and in the bound mode; letters for which R lies at the pattern's front; and sheets
+// The examples that are run: both sides of every limit, by all six engines, for the first hit alone, in the bound mode and for what is shared at a start; letters for which R lies at the pattern's front; and sheets
 // whose refusal names a place. What is printed is held to the file stdout.
 use bound::Bound;
 use bound::choice::Choice;
@@ -11,6 +11,7 @@ use inputs::refusal::Refusal;
 use inputs::refusal::Written;
 use letters::width::wide;
 use libc::STDOUT_FILENO;
+use reasons::shared_at;
 use report::Report;
 
 fn words(text: &[u8]) {
@@ -282,6 +283,25 @@ fn choice_of_m() {
     say_number(wide(choice[64]), b"\n");
 }
 
+// The longest pattern at the last start, whose letters agree in two base letters, one or none; one start too far, the farthest, and a text that is too short.
+fn reasons_of_m() {
+    let mut longest = [3u32; 64];
+    longest[63] = 6;
+    let mut text = [7u32; 66];
+    text[64] = 4;
+    text[65] = 5;
+    let mut sets = [9u32; 65];
+    words(b"reasons, m 64 in 66 at 2, at 3 and at the farthest start, and in 63\n");
+    say_written(shared_at(3, &longest, &text, 2, &mut sets));
+    say_written(shared_at(3, &longest, &text, 3, &mut sets));
+    say_written(shared_at(3, &longest, &text, 18446744073709551615, &mut sets));
+    say_written(shared_at(3, &longest, &text[3..], 0, &mut sets));
+    say_number(wide(sets[0]), b" ");
+    say_number(wide(sets[62]), b" ");
+    say_number(wide(sets[63]), b" ");
+    say_number(wide(sets[64]), b"\n");
+}
+
 fn sheet(s: &[u8]) {
     let mut out = [0u8; Report::MAX_BYTES];
     let len = printed::of_front(s, s.len(), &mut out);
@@ -344,6 +364,7 @@ fn main() {
     unsure_after_the_window();
     bound_of_m();
     choice_of_m();
+    reasons_of_m();
     sheets();
     marked_sheets();
     capacity();

@@ -9,6 +9,7 @@ use Rattle.letters.specs.Members.{membersFrom, members}
 use Rattle.letters.specs.Sizes.{outside}
 use Rattle.hits.specs.Hits.{met, hitAt, startsFrom, hits}
 use Rattle.lent.specs.Over.{over}
+use Rattle.lent.specs.Table.{tableFrom, table}
 use Rattle.hits.specs.Turns.{run, runFirst}
 use Rattle.hits.specs.Scans.{reach, tests, back, backTests}
 use Rattle.hits.specs.Singles.{allSingle}
@@ -26,6 +27,7 @@ use Rattle.hybrid.specs.Stretches.{stretch}
 use Rattle.hybrid.specs.Hybrid.{hybridTurn, hybridRun}
 use Rattle.first.specs.First.{firstRun}
 use Rattle.choices.specs.Choices.{rightPairs, someChoice, lettersAt, someChosen, boundAt, boundHits, lowestOf, lowestAt}
+use Rattle.reasons.specs.Reasons.{sharedAt}
 use Rattle.products.specs.Primes.{primes, product, prime, productOf, firstProduct, divides, isProduct, other, dividing, letterOf}
 use Rattle.products.specs.Conversions.{alphabetThen, sizesThen, convertVerdict, toVerdict, fromVerdict}
 use Rattle.products.specs.Gcd.{commonUpTo, gcd}
@@ -42,5 +44,5 @@ use Rattle.worked.specs.Asked.{given}
 use Rattle.worked.specs.Table.{Example, examples}
 
 pub worked : map (λ (e : Example). given (e .asked)) examples ≡ map (λ (e : Example). e .due) examples
-unfolding ones onesIn digit firstWith member shared meets single membersFrom members outside met hitAt startsFrom hits over run runFirst reach tests allSingle least fit trial trials back backTests lastIn afterR bad refuse verdict verdictAt bruteTurn bruteRun nowMet shiftBy shiftTests kmpTurn kmpRun firstShift firstTests failShift secondShift bmTurn bmRun nextStart sundayTurn sundayRun moved positions stepped isSet shiftandTurn shiftandRun stretch hybridTurn hybridRun firstRun rightPairs someChoice lettersAt someChosen boundAt boundHits lowestOf lowestAt primes product prime productOf firstProduct divides isProduct other dividing letterOf alphabetThen sizesThen convertVerdict toVerdict fromVerdict commonUpTo gcd pairVerdict productsMeet isDigit frontDigits value rightCount countAt plain fresh freshFrom endAt alphabetAt mayFollow inner byteMove readFrom refuseAt alphabetSection letterLine letterSection textSection stringSections planning reading readAlone valuesOf decimalTo decimal ended startLines counts engineLine engineLines bytesOf fitting reportFor
+unfolding ones onesIn digit firstWith member shared meets single membersFrom members outside met hitAt startsFrom hits over tableFrom table run runFirst reach tests allSingle least fit trial trials back backTests lastIn afterR bad refuse verdict verdictAt bruteTurn bruteRun nowMet shiftBy shiftTests kmpTurn kmpRun firstShift firstTests failShift secondShift bmTurn bmRun nextStart sundayTurn sundayRun moved positions stepped isSet shiftandTurn shiftandRun stretch hybridTurn hybridRun firstRun rightPairs someChoice lettersAt someChosen boundAt boundHits lowestOf lowestAt sharedAt primes product prime productOf firstProduct divides isProduct other dividing letterOf alphabetThen sizesThen convertVerdict toVerdict fromVerdict commonUpTo gcd pairVerdict productsMeet isDigit frontDigits value rightCount countAt plain fresh freshFrom endAt alphabetAt mayFollow inner byteMove readFrom refuseAt alphabetSection letterLine letterSection textSection stringSections planning reading readAlone valuesOf decimalTo decimal ended startLines counts engineLine engineLines bytesOf fitting reportFor
 worked = refl

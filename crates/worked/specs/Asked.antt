@@ -15,6 +15,7 @@ use Rattle.choices.specs.Choices.{boundAt, boundHits, lowestAt}
 use Rattle.bound.specs.Bound.{boundOf, choiceOf, choiceLeft}
 use Rattle.bound.specs.declared.Bound.{Bound}
 use Rattle.bound.specs.declared.choice.Choice.{Choice}
+use Rattle.reasons.specs.Reasons.{sharedAt}
 use Rattle.sheet.specs.Reader.{Outcome}
 use Rattle.sheet.specs.Answers.{checkOf}
 use Rattle.report.specs.Report.{reportFor, bytesIn}
@@ -23,12 +24,13 @@ use Rattle.products.specs.Conversions.{toVerdict, fromVerdict}
 use Rattle.products.specs.Meetings.{pairVerdict, productsMeet, meetingOf}
 use Rattle.products.specs.declared.meeting.Meeting.{Meeting}
 
--- a search by an engine for a pattern in a text over k base letters, with a list lent; the first hit alone; the bound mode's list, and its choice at a start; letters to products and back, with a list lent; two products
+-- a search by an engine for a pattern in a text over k base letters, with a list lent; the first hit alone; the bound mode's list, and its choice at a start; what is shared at a start, with a list lent; letters to products and back, with a list lent; two products
 pub data Asked : Type 0 where
   askSearch : Engine → ℕ → List ℕ → List ℕ → List ℕ → Asked
   askFirst : ℕ → List ℕ → List ℕ → Asked
   askBound : ℕ → List ℕ → List ℕ → List ℕ → Asked
   askChoice : ℕ → List ℕ → List ℕ → ℕ → List ℕ → Asked
+  askReasons : ℕ → List ℕ → List ℕ → ℕ → List ℕ → Asked
   askProducts : ℕ → List ℕ → List ℕ → Asked
   askLetters : ℕ → List ℕ → List ℕ → Asked
   askMeeting : ℕ → ℕ → ℕ → Asked
@@ -54,6 +56,9 @@ given (askBound k P T d) = giveBound (boundOf (verdict 32 64 65536 k P T) (bound
 given (askChoice k P T i d) =
     let c = verdictAt 32 64 65536 k P T i (length d) in
     giveChoice (choiceOf c (boundAt P T i)) (choiceLeft c (boundAt P T i) (lowestAt P T i) d)
+given (askReasons k P T i d) =
+    let c = verdictAt 32 64 65536 k P T i (length d) in
+    giveList (writtenOf c (sharedAt P T i)) (listOf c (sharedAt P T i) d)
 given (askProducts k cs d) = giveList (writtenOf (toVerdict 32 9 65536 k cs (length d)) (map productOf cs)) (listOf (toVerdict 32 9 65536 k cs (length d)) (map productOf cs) d)
 given (askLetters k vs d) = giveList (writtenOf (fromVerdict 32 9 65536 k vs (length d)) (map letterOf vs)) (listOf (fromVerdict 32 9 65536 k vs (length d)) (map letterOf vs) d)
 given (askMeeting k a b) = giveMeeting (meetingOf (pairVerdict 32 9 k a b) (productsMeet a b))

@@ -11,7 +11,7 @@ use Rattle.first.specs.declared.First.the-variants.{At, Nowhere, Refused as Fir
 use Rattle.bound.specs.declared.Bound.the-variants.{Total, Refused as BoundRefused}
 use Rattle.bound.specs.declared.choice.Choice.the-variants.{Made, Unlisted, Refused as ChoiceRefused}
 use Rattle.products.specs.declared.meeting.Meeting.the-variants.{Known}
-use Rattle.worked.specs.Asked.{Asked, askSearch, askFirst, askBound, askChoice, askReport, askProducts, askLetters, askMeeting, Handed, giveSearch, giveFirst, giveBound, giveChoice, giveList, giveMeeting}
+use Rattle.worked.specs.Asked.{Asked, askSearch, askFirst, askBound, askChoice, askReasons, askReport, askProducts, askLetters, askMeeting, Handed, giveSearch, giveFirst, giveBound, giveChoice, giveList, giveMeeting}
 
 pub record Example : Type 0 where
   pub asked : Asked
@@ -49,6 +49,14 @@ unlisted P T start = record { asked = askChoice 4 P T start blank; due = giveCho
 -- the choice refused, with this list lent
 abbrev refusesChoice : List ℕ → List ℕ → ℕ → List ℕ → ℕ → Example
 refusesChoice P T start d number = record { asked = askChoice 4 P T start d; due = giveChoice (ChoiceRefused (record { number = number; place = 0 })) d }
+
+-- what is shared at a start, with a list of four lent: how many sets, and the list afterwards
+abbrev agrees : List ℕ → List ℕ → ℕ → ℕ → List ℕ → Example
+agrees P T start m left = record { asked = askReasons 3 P T start blank; due = giveList (Wrote m) left }
+
+-- the same refused, with this list lent
+abbrev refusesReasons : List ℕ → List ℕ → ℕ → List ℕ → ℕ → Example
+refusesReasons P T start d number = record { asked = askReasons 3 P T start d; due = giveList (WriteRefused (record { number = number; place = 0 })) d }
 
 -- a value that is no product for k = 3
 abbrev noProduct : ℕ → Example
@@ -180,6 +188,15 @@ examples =
     ∷ refusesChoice (3 ∷ 3 ∷ []) (1 ∷ 1 ∷ 2 ∷ []) 2 blank 16
     ∷ refusesChoice (3 ∷ 3 ∷ []) (3 ∷ []) 0 (9 ∷ []) 16
     ∷ refusesChoice (3 ∷ 3 ∷ []) (1 ∷ 2 ∷ []) 0 (9 ∷ []) 8
+    -- what anna shares with the worked sheet's text: at 3, a hit, a n n a; at 1, which is none, n alone. * with [ae] and with |
+    ∷ agrees anna page 3 4 (1 ∷ 4 ∷ 4 ∷ 1 ∷ [])
+    ∷ agrees anna page 1 4 (0 ∷ 4 ∷ 0 ∷ 0 ∷ [])
+    ∷ agrees (7 ∷ []) (3 ∷ []) 0 1 (3 ∷ 9 ∷ 9 ∷ 9 ∷ [])
+    ∷ agrees (7 ∷ []) (0 ∷ []) 0 1 (0 ∷ 9 ∷ 9 ∷ 9 ∷ [])
+    -- past the last start: 16, with three lent too; at 3 with three lent: 8
+    ∷ refusesReasons anna page 9 blank 16
+    ∷ refusesReasons anna page 9 (9 ∷ 9 ∷ 9 ∷ []) 16
+    ∷ refusesReasons anna page 3 (9 ∷ 9 ∷ 9 ∷ []) 8
     -- products: [ae] 6, n 5, * 30, and back
     ∷ record { asked = askProducts 3 (3 ∷ 4 ∷ 7 ∷ []) blank; due = giveList (Wrote 3) (6 ∷ 5 ∷ 30 ∷ 9 ∷ []) }
     ∷ record { asked = askLetters 3 (6 ∷ 5 ∷ 30 ∷ []) blank; due = giveList (Wrote 3) (3 ∷ 4 ∷ 7 ∷ 9 ∷ []) }

@@ -6,6 +6,7 @@ use native.Mathlib.Omega.{arith}
 use borrow.Author.Needs.{needs}
 use borrow.Author.Tests.{not-true, not-false}
 use lib.ListN.{length}
+use Rattle.letters.proofs.LetterLaws.{compared}
 use Rattle.hits.specs.Scans.{reach}
 use Rattle.hits.proofs.MetLaws.{met-on}
 use Rattle.hits.proofs.ScanLaws.{reach-on, reach-stop, reach-end}
@@ -25,7 +26,7 @@ Inv-loop p t i r u j₀ last₀ j last = Came p t i r j last
 abbrev μ-loop : tie.MeasureT-loop
 μ-loop p t i r u j₀ last₀ j last = length p - j
 
-abbrev at-loop : tie.After-meet Inv-loop μ-loop → tie.At-loop Inv-loop μ-loop
+abbrev at-loop : tie.After-common Inv-loop μ-loop → tie.At-loop Inv-loop μ-loop
 at-loop k = k .before .before .before .before
 
 abbrev start : tie.At-loop Inv-loop μ-loop → tie.Start Inv-loop μ-loop
@@ -38,7 +39,7 @@ loop-holds c = record { here = c .before .before .pre; rest = refl }
 returns : tie.Need-returns Inv-loop μ-loop
 returns c =
     let l = at-loop (c .before) in
-    let n = sym (c .before .meet .ensures) ∙ not-true _ (c .if1 .taken) in
+    let n = compared (c .before .common .ensures) .none (c .if1 .taken) in
     (sym (l .loop .inv .rest ∙ reach-stop _ _ _ _ _ (omega arith) n), l .loop .inv .here)
 
 -- past a letter that meets, whichever letter is kept as the last that is not single
@@ -51,7 +52,7 @@ module _ (k : tie.Else1 Inv-loop μ-loop) where
       let l = at-loop (k .before) in
       let a = start l .args in
       let w = l .loop .inv in
-      let y = sym (k .before .meet .ensures) ∙ not-false _ (k .if1 .left) in
+      let y = compared (k .before .common .ensures) .some (k .if1 .left) in
       record {
         here = record { inside = w .here .inside; short = omega arith; meet = met-on (a .p .now) (a .t .now) (a .i) (l .loop .j) (w .here .meet) y; carried = e };
         rest = w .rest ∙ reach-on (a .p .now) (a .t .now) (a .i) (length (a .p .now)) (l .loop .j) (omega arith) y;

@@ -26,13 +26,15 @@ const SHEETS: &[&str] = &["read", "program"];
 const READERS: &[&str] = &["read", "reports", "program"];
 const FIRST: &[&str] = &["first"];
 const BOUND: &[&str] = &["bound"];
-const CHECKS: &[&str] = &["refusals", "first", "bound"];
-const LIMITS: &[&str] = &["limits", "refusals", "first", "bound"];
-const PLACES: &[&str] = &["refusals", "first", "bound", "products", "read", "write", "program"];
-const LETTERS: &[&str] = &["refusals", "first", "bound", "products", "write"];
-const TAKEN: &[&str] = &["refusals", "first", "bound", "read", "write", "reports", "program"];
-const FOUND: &[&str] = &["exhaustive", "random", "limits", "first", "bound", "reports", "program"];
-const MET: &[&str] = &["exhaustive", "random", "limits", "first", "bound", "products", "reports", "program"];
+const REASONS: &[&str] = &["reasons"];
+const AT: &[&str] = &["bound", "reasons"];
+const CHECKS: &[&str] = &["refusals", "first", "bound", "reasons"];
+const LIMITS: &[&str] = &["limits", "refusals", "first", "bound", "reasons"];
+const PLACES: &[&str] = &["refusals", "first", "bound", "reasons", "products", "read", "write", "program"];
+const LETTERS: &[&str] = &["refusals", "first", "bound", "reasons", "products", "write"];
+const TAKEN: &[&str] = &["refusals", "first", "bound", "reasons", "read", "write", "reports", "program"];
+const FOUND: &[&str] = &["exhaustive", "random", "limits", "first", "bound", "reasons", "reports", "program"];
+const MET: &[&str] = &["exhaustive", "random", "limits", "first", "bound", "reasons", "products", "reports", "program"];
 const EVERY: &[&str] = &[
     "exhaustive",
     "random",
@@ -40,6 +42,7 @@ const EVERY: &[&str] = &[
     "refusals",
     "first",
     "bound",
+    "reasons",
     "products",
     "read",
     "write",
@@ -67,7 +70,7 @@ pub const SLIPS: &[Slip] = &[
     slip("hybrid-one-on", SEARCHES, "Hybrid goes one on after a failure, not as Sunday does"),
     slip("k-32", LIMITS, "an alphabet of 32 is refused"),
     slip("m-64", LIMITS, "a pattern of 64 letters is refused"),
-    slip("n-65536", &["limits", "first", "bound"], "a text of 65,536 letters is refused"),
+    slip("n-65536", &["limits", "first", "bound", "reasons"], "a text of 65,536 letters is refused"),
     slip("order-23", CHECKS, "3 is checked before 2"),
     slip("order-45", CHECKS, "5 is checked before 4"),
     slip("work-first", &["refusals"], "the 8 for the counts comes before 4 and 5"),
@@ -114,18 +117,40 @@ pub const SLIPS: &[Slip] = &[
     slip("bound-answers-m", BOUND, "the numbers written are counted in the answer, which is to be 1"),
     slip("bound-none-writes", BOUND, "a choice is written though the start is not listed"),
     slip("bound-none-refused", BOUND, "a start that is not listed is refused with 16"),
-    slip("bound-writes-beyond", BOUND, "one more number is written where more are lent"),
-    slip("bound-window", BOUND, "a wrong text letter that is not under the pattern is not refused at one start"),
-    slip("bound-start-early", BOUND, "16 comes before 4 and 5"),
-    slip("bound-start-wraps", BOUND, "the start and m are added without regard to the largest size"),
-    slip("bound-start-32", BOUND, "the start is cut to 32 bits"),
-    slip("bound-start-last", BOUND, "the last start is refused with 16"),
-    slip("bound-start-beyond", BOUND, "the start after the last one is not refused"),
-    slip("bound-start-n", BOUND, "16 is asked of the start alone, not of its sum with m"),
-    slip("bound-start-place", BOUND, "the start is the place of a 16"),
-    slip("bound-room-early", BOUND, "8 comes before 4 and 5"),
-    slip("bound-room-first", BOUND, "8 comes before 16"),
     slip("bound-room-listed", BOUND, "8 is asked only where the start is listed"),
+    slip("start-outside", AT, "a wrong text letter that is not under the pattern is not refused at one start"),
+    slip("start-early", AT, "16 comes before 4 and 5"),
+    slip("start-wraps", AT, "the start and m are added without regard to the largest size"),
+    slip("start-32", AT, "the start is cut to 32 bits"),
+    slip("start-last", AT, "the last start is refused with 16"),
+    slip("start-beyond", AT, "the start after the last one is not refused"),
+    slip("start-n", AT, "16 is asked of the start alone, not of its sum with m"),
+    slip("start-place", AT, "the start is the place of a 16"),
+    slip("start-room-early", AT, "8 comes before 4 and 5"),
+    slip("start-room-first", AT, "8 comes before 16"),
+    slip("start-room-beyond", AT, "room for m values is refused with 8"),
+    slip("start-room-short", AT, "room for m - 1 values is enough"),
+    slip("start-room-fills", AT, "a call at one start that is refused with 8 writes what there is room for"),
+    slip("start-writes-beyond", AT, "one more value is written at a start where more are lent"),
+    slip("reasons-union", REASONS, "all members of both letters are written, not those in common"),
+    slip("reasons-lowest", REASONS, "the lowest letter in common is written alone"),
+    slip("reasons-number", REASONS, "the number of the lowest letter in common is written, not a set"),
+    slip("reasons-yes", REASONS, "1 is written where the letters meet, and 0 where they do not"),
+    slip("reasons-own-pattern", REASONS, "the whole pattern letter is written where the letters meet"),
+    slip("reasons-own-text", REASONS, "the whole text letter is written where the letters meet"),
+    slip("reasons-mark-any", REASONS, "a mark shares all of the pattern's letter"),
+    slip("reasons-31", REASONS, "the last of 32 base letters is never in common"),
+    slip("reasons-choice", REASONS, "at a bound-listed start the letters of its choice are written alone"),
+    slip("reasons-window", REASONS, "the text's first letters are looked at, whatever the start"),
+    slip("reasons-first-empty", REASONS, "what stands behind the first empty set is not written"),
+    slip("reasons-hit-only", REASONS, "nothing is written at a start that is no hit"),
+    slip("reasons-keeps", REASONS, "an empty set is not written"),
+    slip("reasons-packed", REASONS, "empty sets are left out, and those behind them moved up"),
+    slip("reasons-backwards", REASONS, "the sets are written from the last one to the first"),
+    slip("reasons-answers-hit", REASONS, "1 is answered at a hit and else 0, not m"),
+    slip("reasons-answers-shared", REASONS, "the sets that are not empty are counted in the answer, not all m"),
+    slip("reasons-none-refused", REASONS, "a start that is no hit is refused with 16"),
+    slip("reasons-room-hit", REASONS, "8 is asked only where the start is a hit"),
     slip("product", &["products"], "the product of all nine letters is one too high"),
     slip("letter", &["products"], "the product of all nine primes gives a letter without its last member"),
     slip("one", &["products"], "1 is refused as no product"),
@@ -157,13 +182,13 @@ pub const SLIPS: &[Slip] = &[
     slip("report-place", &["reports"], "a refused report tells its place"),
     slip("place", PLACES, "every place but 0 is one too high"),
     slip("no-place", PLACES, "every place is 0"),
-    slip("place-4", &["refusals", "first", "bound", "write"], "the place of a 4 is one too high"),
+    slip("place-4", &["refusals", "first", "bound", "reasons", "write"], "the place of a 4 is one too high"),
     slip("place-5", LETTERS, "the place of a 5 is one too high"),
     slip("place-7", &["products"], "the place of a 7 is one too high"),
     slip("place-12", &["read", "write", "program"], "the place of a 12 is one too high"),
     slip(
         "highest",
-        &["refusals", "first", "bound", "products"],
+        &["refusals", "first", "bound", "reasons", "products"],
         "the highest index of a wrong letter is named, not the lowest",
     ),
     slip("highest-7", &["products"], "the highest index of a value that is no product is named"),

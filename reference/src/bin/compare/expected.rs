@@ -1,14 +1,16 @@
 //! What is expected of each call: its answer and every cell that it writes, from the reference.
 
-use crate::library::{BoundCase, ConvertCase, FirstCase, ReadCase, SearchCase, Way, WriteCase};
-use crate::{broken, broken_bound};
-use reference::bound::{bound, bound_choice, check_start};
+use crate::library::{BorrowedCase, ConvertCase, FirstCase, ReadCase, SearchCase, Way, WriteCase};
+use crate::{broken, broken_bound, broken_reasons};
+use reference::bound::{bound, bound_choice};
 use reference::engines::{search, Engine};
 use reference::first::{first, first_hit};
 use reference::letters::{hits, right_in_pattern, right_in_text, whole, MARK};
 use reference::products::{from_products, is_product, product, products_meet, to_products};
+use reference::reasons::reasons;
 use reference::refusals::{
-    check_each, check_k, check_m, check_n, check_pattern, check_room, check_search, check_text, refuse, Refusal,
+    check_each, check_k, check_m, check_n, check_pattern, check_room, check_search, check_start, check_text, refuse,
+    Refusal,
 };
 use reference::report::{report, report_of};
 use reference::sheet::{allowed, read, write, Room};
@@ -240,8 +242,8 @@ impl Expect {
         Ok(Outcome { answer: i64::from(found.start.is_some()), numbers, ..Outcome::default() })
     }
 
-    pub fn bound(self, case: &BoundCase) -> Outcome {
-        let BoundCase { k, pattern, text, cap } = *case;
+    pub fn bound(self, case: &BorrowedCase) -> Outcome {
+        let BorrowedCase { k, pattern, text, cap } = *case;
         let starts = match self.broken {
             None => bound(k, pattern, text),
             name => self.check(k, pattern, text).map(|_| broken_bound::starts(name, k, pattern, text)),
@@ -262,70 +264,125 @@ impl Expect {
         out
     }
 
-    pub fn bound_choice(self, case: &BoundCase, start: usize) -> Outcome {
-        let BoundCase { k, pattern, text, cap } = *case;
-        let m = pattern.len();
-        let chosen = match self.checked_choice(case, start) {
-            Ok(chosen) => chosen,
-            Err(mut refusal) => {
-                if self.is("bound-start-place") && refusal.number == 16 {
-                    refusal.place = start;
-                }
-                let written = if self.is("refused-writes") { cap.min(m) } else { 0 };
-                return Outcome { letters: vec![0; written], ..self.refused_search(k, pattern, text, refusal) };
+    pub fn bound_choice(self, case: &BorrowedCase, start: usize) -> Outcome {
+        let BorrowedCase { k, pattern, text, cap } = *case;
+        let choose = || broken_bound::choice(self.broken, k, pattern, text, self.taken_start(start));
+        let checked = match self.broken {
+            None => bound_choice(k, pattern, text, start, cap),
+            Some(name) => {
+                let unasked = || name == "bound-room-listed" && choose().is_none();
+                self.check_at(case, start, unasked).map(|_| choose())
             }
         };
-        let listed = chosen.is_some();
+        let chosen = match checked {
+            Ok(chosen) => chosen,
+            Err(refusal) => return self.refused_at(case, start, refusal, || choose().unwrap_or_default()),
+        };
+        let (listed, m) = (chosen.is_some(), pattern.len());
         let mut out = Outcome { answer: i64::from(listed), letters: chosen.unwrap_or_default(), ..Outcome::default() };
         match self.broken {
             Some("bound-none-writes") if !listed => out.letters = vec![0; m],
             Some("bound-none-refused") if !listed => return refused(Refusal { number: 16, place: 0 }),
-            Some("bound-writes-beyond") if listed && cap > m => out.letters.push(0),
             Some("bound-answers-m") if listed => out.answer = m as i64,
             _ => {}
         }
-        out
+        self.written_at(out, cap)
     }
 
-    fn checked_choice(self, case: &BoundCase, start: usize) -> Result<Option<Vec<u32>>, Refusal> {
-        let BoundCase { k, pattern, text, cap } = *case;
+    pub fn reasons(self, case: &BorrowedCase, start: usize) -> Outcome {
+        let BorrowedCase { k, pattern, text, cap } = *case;
+        let share = || broken_reasons::sets(self.broken, k, pattern, text, self.taken_start(start));
+        let checked = match self.broken {
+            None => reasons(k, pattern, text, start, cap),
+            Some(name) => {
+                let unasked = || name == "reasons-room-hit" && share().contains(&0);
+                self.check_at(case, start, unasked).map(|_| share())
+            }
+        };
+        let letters = match checked {
+            Ok(sets) => sets,
+            Err(refusal) => return self.refused_at(case, start, refusal, share),
+        };
+        let (m, shared) = (pattern.len(), letters.iter().filter(|set| **set != 0).count());
+        let answer = match self.broken {
+            Some("reasons-answers-hit") => usize::from(shared == m),
+            Some("reasons-answers-shared") => shared,
+            Some("reasons-none-refused") if shared < m => return refused(Refusal { number: 16, place: 0 }),
+            _ => m,
+        };
+        self.written_at(Outcome { answer: answer as i64, letters, ..Outcome::default() }, cap)
+    }
+
+    /// What a call at one start checks, with a slip in the order, in the start or in the room. The room is left alone where
+    /// it is unasked.
+    fn check_at(self, case: &BorrowedCase, start: usize, unasked: impl Fn() -> bool) -> Result<(), Refusal> {
+        let BorrowedCase { k, pattern, text, cap } = *case;
         let (m, n) = (pattern.len(), text.len());
-        if self.broken.is_none() {
-            return bound_choice(k, pattern, text, start, cap);
-        }
-        if self.is("bound-start-early") || self.is("bound-room-early") {
+        if self.is("start-early") || self.is("start-room-early") {
             check_sizes(k, pattern, text)?;
-            if self.is("bound-start-early") {
+            if self.is("start-early") {
                 check_start(start, m, n)?
             } else {
                 check_room(m, cap)?
             }
         }
-        let in_window = |place: usize| place >= start && place - start < m;
+        let under = |place: usize| place >= start && place - start < m;
         match self.check(k, pattern, text) {
-            Err(Refusal { number: 5, place }) if self.is("bound-window") && !in_window(place) => {}
+            Err(Refusal { number: 5, place }) if self.is("start-outside") && !under(place) => {}
             checked => checked?,
         }
-        if self.is("bound-room-first") {
+        if self.is("start-room-first") {
             check_room(m, cap)?;
         }
         self.check_slipped_start(start, m, n)?;
-        let chosen = broken_bound::choice(self.broken, k, pattern, text, start);
-        if chosen.is_some() || !self.is("bound-room-listed") {
-            check_room(m, cap)?;
+        match self.broken {
+            Some("start-room-beyond") => check_room(m + 1, cap),
+            Some("start-room-short") => check_room(m - 1, cap),
+            _ if unasked() => Ok(()),
+            _ => check_room(m, cap),
         }
-        Ok(chosen)
+    }
+
+    /// A refused call at one start, with a slip in its place or in what it leaves alone.
+    fn refused_at(self, case: &BorrowedCase, start: usize, refusal: Refusal, values: impl Fn() -> Vec<u32>) -> Outcome {
+        let BorrowedCase { k, pattern, text, cap } = *case;
+        let place = if self.is("start-place") && refusal.number == 16 { start } else { refusal.place };
+        let mut letters = match (self.broken, refusal.number) {
+            (Some("refused-writes"), _) => vec![0; pattern.len()],
+            (Some("start-room-fills"), 8) => values(),
+            _ => vec![],
+        };
+        letters.truncate(cap);
+        Outcome { letters, ..self.refused_search(k, pattern, text, Refusal { place, ..refusal }) }
+    }
+
+    /// What a call at one start writes, as far as the room reaches, with the slip that writes one value more.
+    fn written_at(self, mut out: Outcome, cap: usize) -> Outcome {
+        if self.is("start-writes-beyond") && !out.letters.is_empty() {
+            out.letters.push(0);
+        }
+        out.letters.truncate(cap);
+        out
+    }
+
+    /// The start that a slip takes this one for.
+    fn taken_start(self, start: usize) -> usize {
+        if self.is("start-32") {
+            start as u32 as usize
+        } else {
+            start
+        }
     }
 
     /// Refusal 16, with a slip in what is compared.
     fn check_slipped_start(self, start: usize, m: usize, n: usize) -> Result<(), Refusal> {
         let end = start.saturating_add(m);
         let taken = match self.broken {
-            Some("bound-start-wraps") => start.wrapping_add(m) <= n,
-            Some("bound-start-32") => start as u32 as usize + m <= n,
-            Some("bound-start-last") => end < n,
-            Some("bound-start-beyond") => end <= n + 1,
-            Some("bound-start-n") => start <= n,
+            Some("start-wraps") => start.wrapping_add(m) <= n,
+            Some("start-32") => self.taken_start(start) + m <= n,
+            Some("start-last") => end < n,
+            Some("start-beyond") => end <= n + 1,
+            Some("start-n") => start <= n,
             _ => return check_start(start, m, n),
         };
         if taken {

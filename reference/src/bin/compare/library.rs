@@ -19,6 +19,21 @@ macro_rules! declare_searches {
 
 declare_searches! { breakwarp_brute breakwarp_kmp breakwarp_bm breakwarp_sunday breakwarp_shiftand breakwarp_hybrid }
 
+type AtStart = unsafe extern "C" fn(u32, *const u32, usize, *const u32, usize, usize, *mut u32, usize) -> i64;
+
+macro_rules! declare_at_start {
+    ($($name:ident)*) => {
+        extern "C" {$(
+            fn $name(
+                k: u32, pattern: *const u32, m: usize, text: *const u32, n: usize,
+                start: usize, values: *mut u32, cap: usize,
+            ) -> i64;
+        )*}
+    };
+}
+
+declare_at_start! { breakwarp_bound_choice breakwarp_reasons }
+
 extern "C" {
     fn breakwarp_first(
         k: u32,
@@ -36,16 +51,6 @@ extern "C" {
         text: *const u32,
         n: usize,
         hits: *mut u32,
-        cap: usize,
-    ) -> i64;
-    fn breakwarp_bound_choice(
-        k: u32,
-        pattern: *const u32,
-        m: usize,
-        text: *const u32,
-        n: usize,
-        start: usize,
-        choice: *mut u32,
         cap: usize,
     ) -> i64;
     fn breakwarp_to_products(k: u32, letters: *const u32, n: usize, products: *mut u32, cap: usize) -> i64;
@@ -210,17 +215,23 @@ pub fn first(case: &FirstCase, due: &Outcome) -> Result<(), String> {
     settle(due, answer, &[found.differs("found", &due.numbers)])
 }
 
-/// A question of the bound mode. Many starts are asked about in one text, so the strings are only borrowed.
+/// What a lent slice of 32 bits holds at an index before the call.
+pub fn before(index: usize) -> u32 {
+    u32::filler(GUARD + index)
+}
+
+/// A question of the bound mode, or about what is shared. Many starts are asked about in one text, so the strings are only
+/// borrowed.
 #[derive(Clone, Copy, Debug)]
-pub struct BoundCase<'a> {
+pub struct BorrowedCase<'a> {
     pub k: u32,
     pub pattern: &'a [u32],
     pub text: &'a [u32],
     pub cap: usize,
 }
 
-pub fn bound(case: &BoundCase, due: &Outcome) -> Result<(), String> {
-    let BoundCase { k, pattern, text, cap } = *case;
+pub fn bound(case: &BorrowedCase, due: &Outcome) -> Result<(), String> {
+    let BorrowedCase { k, pattern, text, cap } = *case;
     let null = null(pattern.len() + text.len());
     let mut hits = Lent::<u32>::new(cap);
     let (p, t) = (read_from(pattern, null), read_from(text, null));
@@ -229,15 +240,23 @@ pub fn bound(case: &BoundCase, due: &Outcome) -> Result<(), String> {
     settle(due, answer, &[hits.differs("hits", &due.letters)])
 }
 
-/// The same at one start, where `cap` is the room for the choice.
-pub fn bound_choice(case: &BoundCase, start: usize, due: &Outcome) -> Result<(), String> {
-    let BoundCase { k, pattern, text, cap } = *case;
+/// A call at one start, which writes a value for each pattern letter; `cap` is the room for these.
+fn at_start(call: AtStart, name: &str, case: &BorrowedCase, start: usize, due: &Outcome) -> Result<(), String> {
+    let BorrowedCase { k, pattern, text, cap } = *case;
     let null = null(pattern.len() + text.len());
-    let mut choice = Lent::<u32>::new(cap);
+    let mut values = Lent::<u32>::new(cap);
     let (p, t) = (read_from(pattern, null), read_from(text, null));
-    let c = choice.pointer(null);
-    let answer = unsafe { breakwarp_bound_choice(k, p, pattern.len(), t, text.len(), start, c, cap) };
-    settle(due, answer, &[choice.differs("choice", &due.letters)])
+    let v = values.pointer(null);
+    let answer = unsafe { call(k, p, pattern.len(), t, text.len(), start, v, cap) };
+    settle(due, answer, &[values.differs(name, &due.letters)])
+}
+
+pub fn bound_choice(case: &BorrowedCase, start: usize, due: &Outcome) -> Result<(), String> {
+    at_start(breakwarp_bound_choice, "choice", case, start, due)
+}
+
+pub fn reasons(case: &BorrowedCase, start: usize, due: &Outcome) -> Result<(), String> {
+    at_start(breakwarp_reasons, "sets", case, start, due)
 }
 
 /// Which way a conversion goes.

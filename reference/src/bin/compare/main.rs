@@ -8,6 +8,7 @@
 mod bound;
 mod broken;
 mod broken_bound;
+mod broken_reasons;
 mod cases;
 mod expected;
 mod first;
@@ -16,8 +17,11 @@ mod library;
 mod products;
 mod program;
 mod random;
+mod reasons;
 mod searches;
 mod sheets;
+mod starts;
+mod windows;
 
 use expected::{Expect, Outcome};
 use random::Random;
@@ -74,13 +78,14 @@ struct Group {
     run: fn(&mut Run) -> Told,
 }
 
-const GROUPS: [Group; 11] = [
+const GROUPS: [Group; 12] = [
     Group { name: "exhaustive", run: searches::exhaustive },
     Group { name: "random", run: searches::random },
     Group { name: "limits", run: searches::limits },
     Group { name: "refusals", run: searches::refusals },
     Group { name: "first", run: first::first },
     Group { name: "bound", run: bound::bound },
+    Group { name: "reasons", run: reasons::reasons },
     Group { name: "products", run: products::products },
     Group { name: "read", run: sheets::read },
     Group { name: "write", run: sheets::write },

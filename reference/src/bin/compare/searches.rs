@@ -1,4 +1,4 @@
-//! The six searches, and the strings on which the first hit and the bound mode are asked for too.
+//! The six searches, and the strings on which the first hit, the bound mode and what is shared are asked for too.
 
 use crate::cases::{pair, strings_up_to};
 use crate::fronts;

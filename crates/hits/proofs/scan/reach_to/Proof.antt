@@ -4,7 +4,7 @@ use native.Mathlib.Omega.{arith}
 use mathlib.Core.Path.{_≡_, refl, sym, _∙_}
 use mathlib.Core.List.{List}
 use Prim.Native.Nat.{ℕ, _-_, _≤_}
-use borrow.Author.Tests.{not-true, not-false}
+use Rattle.letters.proofs.LetterLaws.{compared}
 use Rattle.hits.specs.Scans.{reach}
 use Rattle.hits.proofs.ScanLaws.{reach-on, reach-stop, reach-end}
 use Rattle.hits.proofs.scan.reach_to.Statement.{statement}
@@ -29,7 +29,7 @@ returns : tie.Need-returns Inv-loop μ-loop
 returns c =
     let l = c .before .before .before .before .before in
     let a = l .before .before .before .args in
-    sym (l .loop .inv .ahead ∙ reach-stop (a .p .now) (a .t .now) (a .i) (a .b) (l .loop .j) (omega arith) (sym (c .before .meet .ensures) ∙ not-true (c .before .meet .result) (c .if1 .taken)))
+    sym (l .loop .inv .ahead ∙ reach-stop (a .p .now) (a .t .now) (a .i) (a .b) (l .loop .j) (omega arith) (compared (c .before .common .ensures) .none (c .if1 .taken)))
 
 loop-again : tie.Need-loop-again Inv-loop μ-loop
 loop-again c =
@@ -38,7 +38,7 @@ loop-again c =
     record {
       from = omega arith;
       upto = omega arith;
-      ahead = l .loop .inv .ahead ∙ reach-on (a .p .now) (a .t .now) (a .i) (a .b) (l .loop .j) (omega arith) (sym (c .before .meet .ensures) ∙ not-false (c .before .meet .result) (c .if1 .left));
+      ahead = l .loop .inv .ahead ∙ reach-on (a .p .now) (a .t .now) (a .i) (a .b) (l .loop .j) (omega arith) (compared (c .before .common .ensures) .some (c .if1 .left));
     }
 
 returns-2 : tie.Need-returns-2 Inv-loop μ-loop

@@ -5,8 +5,7 @@ use mathlib.Core.Bool.{Bool, _&&_}
 use mathlib.Core.List.{List}
 use native.Mathlib.Omega.{arith}
 use borrow.Author.Needs.{needs}
-use borrow.Author.Tests.{not-true, not-false}
-use lib.ListN.{length}
+use Rattle.letters.proofs.LetterLaws.{compared}
 use Rattle.hits.specs.Scans.{back}
 use Rattle.hits.specs.Singles.{allSingle}
 use Rattle.hits.proofs.BackLaws.{back-down, back-end, back-none}
@@ -35,7 +34,7 @@ returns : tie.Need-returns Inv-loop μ-loop
 returns c =
     let l = c .before .before .before .before .before in
     let a = l .before .before .before .args in
-    let n = back-end (a .p .now) (a .t .now) (a .i) (l .loop .k) (omega arith) (sym (c .before .meet .ensures) ∙ not-true (c .before .meet .result) (c .if1 .taken)) in
+    let n = back-end (a .p .now) (a .t .now) (a .i) (l .loop .k) (omega arith) (compared (c .before .common .ensures) .none (c .if1 .taken)) in
     (omega arith, omega (arith, l .loop .inv .ahead), l .loop .inv .singles)
 
 -- a letter that meets is one more
@@ -46,7 +45,7 @@ passed : (q : tie.Else1 Inv-loop μ-loop) →
 passed q =
     let l = q .before .before .before .before .before in
     let a = l .before .before .before .args in
-    let y = back-down (a .p .now) (a .t .now) (a .i) (l .loop .k) (omega arith) (sym (q .before .meet .ensures) ∙ not-false (q .before .meet .result) (q .if1 .left)) in
+    let y = back-down (a .p .now) (a .t .now) (a .i) (l .loop .k) (omega arith) (compared (q .before .common .ensures) .some (q .if1 .left)) in
     omega (arith, l .loop .inv .ahead)
 
 loop-again : tie.Need-loop-again Inv-loop μ-loop
