@@ -120,10 +120,10 @@ int64_t breakwarp_bound_choice(uint32_t k, const uint32_t *pattern, size_t m,
 
 /* Why a start is listed, or is not: sets[j] is the set of base letters that pattern letter j and
  * the text letter under it share, 0 if there is none, as with an entry mark. Writes m sets and
- * returns m, at a start that is no hit too. If start + m is at most n, the start is a hit exactly if
- * none of the sets is 0; at a bound-listed start set j has the letter that breakwarp_bound_choice
- * gives for j (both proved). The start may be any number. Refusals, in this order: 1, 2, 3, 4, 5,
- * then 16 if start + m exceeds n, then 8 if fewer than m sets are lent. */
+ * returns m, at a start that is no hit too. If start + m is at most n, the start is a hit exactly
+ * if none of the sets is 0; at a bound-listed start set j has the letter that
+ * breakwarp_bound_choice gives for j (both proved). The start may be any number. Refusals, in this
+ * order: 1, 2, 3, 4, 5, then 16 if start + m exceeds n, then 8 if fewer than m sets are lent. */
 int64_t breakwarp_reasons(uint32_t k, const uint32_t *pattern, size_t m, const uint32_t *text,
                           size_t n, size_t start, uint32_t *sets, size_t cap);
 
