@@ -11,6 +11,8 @@
 // 5. A first shift is cut to the first start past the last.
 // 6. Whether a letter is single is asked only while all before it are, and
 // 7. the first shift only where a letter meets: else it is 1 with no test. No count shows either.
+#![tactic(auto)]
+
 pub mod c;
 mod twice;
 

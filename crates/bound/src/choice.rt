@@ -14,7 +14,7 @@ use letters::letter::Letter;
 use letters::strings::{Pattern, Text};
 
 // The start is bound-listed, and its choice was written; or it is not, and nothing was; or the refusal.
-#[derive(Drop)]
+#[derive(Clone, Copy)]
 pub enum Choice {
     Made,
     Unlisted,

@@ -1,4 +1,6 @@
 // The bound mode: within one hit every unsure letter stands for one of its members, the same wherever it stands. All starts at which there is such a choice.
+#![tactic(auto)]
+
 pub mod c;
 pub mod choice;
 mod twice;
@@ -19,7 +21,7 @@ use letters::letter::Letter;
 use letters::strings::{Pattern, Text};
 
 // How many starts are bound-listed, or the refusal.
-#[derive(Drop)]
+#[derive(Clone, Copy)]
 pub enum Bound {
     Total(usize),
     Refused(Refusal),

@@ -1,4 +1,6 @@
 // The library for C: each function is a shell over one call. It keeps no state and uses no heap.
+#![tactic(auto)]
+
 mod twice;
 
 ghost use Rattle.brute.specs.Brute.{brute_run};
@@ -173,7 +175,7 @@ pub extern "C" fn breakwarp_read_sheet(
     t: &mut [u32],
     sizes: &mut [u64],
 ) -> i64
-    ensures { ReadCalled Sheet.MAX_BYTES Letter.MAX_K Pattern.MAX_M Text.MAX_N s.now (record { alphabet = alphabet.entry.now; pattern = p.old; text = t.old }) sizes.old result (record { alphabet = alphabet.exit.now; pattern = p.new; text = t.new }) sizes.new }
+    ensures { ReadCalled Sheet.MAX_BYTES Letter.MAX_K Pattern.MAX_M Text.MAX_N s.now (record { alphabet = alphabet.old; pattern = p.old; text = t.old }) sizes.old result (record { alphabet = alphabet.new; pattern = p.new; text = t.new }) sizes.new }
 {
     read_called(s, alphabet, p, t, sizes)
 }

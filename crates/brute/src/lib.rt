@@ -1,4 +1,6 @@
 // The engine brute: tests each start left to right; the next start is one on.
+#![tactic(auto)]
+
 pub mod c;
 mod twice;
 

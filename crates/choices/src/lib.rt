@@ -1,5 +1,7 @@
 // One sign, one letter: the sets that the pairs of a start may still be given, narrowed until they say whether there is a choice, and the lowest.
 // No choice is lost on the way, so what is left decides. Narrowing pair by pair, once from left to right (001), does not: `[ab][abc][ab]` over `[abc]ab` would pass.
+#![tactic(auto)]
+
 ghost use Rattle.std.specs.Prelude.{◌≡◌, true, ◌+◌, ◌≤◌, ◌<◌, eqb, length, get_or};
 ghost use Rattle.letters.specs.Sizes.{SizedPattern};
 ghost use Rattle.choices.specs.Choices.{some_below, bound_at};

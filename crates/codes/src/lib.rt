@@ -1,4 +1,6 @@
 // What a call from C returns.
+#![tactic(auto)]
+
 pub mod search;
 
 ghost use Rattle.std.specs.Prelude.{◌≡◌, min, ◌^◌, ◌<◌, pos};

@@ -4,7 +4,7 @@ ghost use Rattle.decimal.specs.Decimal.{is_digit, front_digits, value};
 ghost use Rattle.decimal.specs.CountLine.{count_at};
 
 // A count line: its number and the place after it, or ill-formed.
-#[derive(Drop)]
+#[derive(Clone, Copy)]
 pub enum Count {
     Number(usize, usize),
     Wrong,

@@ -1,4 +1,6 @@
 // Numbers in decimal digits, there and back.
+#![tactic(auto)]
+
 pub mod bytes;
 pub mod count;
 

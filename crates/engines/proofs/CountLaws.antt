@@ -1,17 +1,16 @@
 -- How much each engine counts at most, within the limits. Assumes nothing.
-use Prim.Native.Nat.{ℕ, zero, suc, ◌+◌, ◌*◌, ◌≤◌, ◌<◌}
+use Prim.Native.Nat.{ℕ, zero, suc, ◌+◌, ◌*◌, ◌≤◌}
 use mathlib.Core.Path.{◌≡◌, refl, ap, ◌∙◌}
 use mathlib.Core.Bool.{Bool}
 use mathlib.Core.List.{List, []}
 use native.Mathlib.Omega.{arith}
-use lib.ListN.{length}
 use Rattle.letters.specs.Sizes.{Sized}
 use Rattle.letters.proofs.Truth.{bool_cases}
 use Rattle.hits.specs.Turns.{Turn, Run, idle, after, run}
 use Rattle.hits.proofs.RunLaws.{run_stop, run_on}
 use Rattle.brute.specs.Brute.{brute_turn, brute_run}
 use Rattle.brute.proofs.BruteLaws.{brute_small}
-use Rattle.kmp.specs.Kmp.{At, kmp_turn, kmp_run}
+use Rattle.kmp.specs.Kmp.{kmp_turn, kmp_run}
 use Rattle.kmp.proofs.KmpLaws.{kmp_scan_small, kmp_shift_small}
 use Rattle.bm.specs.Bm.{bm_turn, bm_run}
 use Rattle.bm.proofs.BmLaws.{bm_scan_small, bm_shift_small}

@@ -6,7 +6,7 @@ ghost use Rattle.engines.specs.Engines.{the_six, name_of};
 
 use lent::put_bytes;
 
-#[derive(Drop)]
+#[derive(Clone, Copy)]
 pub enum Engine {
     Brute,
     Kmp,

@@ -1,4 +1,6 @@
 // The six engines as one thing.
+#![tactic(auto)]
+
 pub mod engine;
 mod twice;
 

@@ -1,4 +1,6 @@
 // The first hit alone, by brute's rule: each start is tested left to right, and none after the first that is a hit.
+#![tactic(auto)]
+
 pub mod c;
 mod twice;
 
@@ -14,7 +16,7 @@ use letters::strings::{Pattern, Text};
 use letters::width::wide;
 
 // The first start that is a hit, or none; and the scan tests. Or the refusal.
-#[derive(Drop)]
+#[derive(Clone, Copy)]
 pub enum First {
     At(usize, u64),
     Nowhere(u64),

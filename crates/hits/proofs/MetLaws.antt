@@ -1,7 +1,7 @@
 -- The family of `met`: a stretch of a pattern that meets the text under it. Assumes nothing.
 --
 -- There is no law of transitivity: where one is wanted, the letter in the middle is single (`single_same`).
-use mathlib.Core.Path.{◌≡◌, refl, ap}
+use mathlib.Core.Path.{◌≡◌, refl}
 use mathlib.Core.Bool.{Bool, true, false, ◌&&◌, and-false}
 use mathlib.Core.List.{List}
 use mathlib.Core.Logic.{⊎_elim}

@@ -1,5 +1,5 @@
 -- Stretches of single letters.
-use Rattle.std.specs.Prelude.{ℕ, zero, suc, ◌+◌, Bool, true, false, cond, ◌&&◌, List, get_or}
+use Rattle.std.specs.Prelude.{ℕ, zero, suc, ◌+◌, Bool, true, cond, ◌&&◌, List, get_or}
 use Rattle.letters.specs.Letters.{single}
 
 -- the c letters of T from a on are all single

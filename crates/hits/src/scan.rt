@@ -21,7 +21,7 @@ pub fn reach_to(p: &[u32], t: &[u32], i: usize, a: usize, b: usize) -> usize
     j
 }
 
-#[derive(Drop)]
+#[derive(Clone, Copy)]
 pub struct Back {
     pub left: usize,
     pub sure: bool,

@@ -2,7 +2,7 @@
 ghost use Rattle.std.specs.Prelude.{◌≡◌, ◌+◌, ◌^◌, ◌<◌};
 ghost use Rattle.hits.specs.Counts.{tally, noted};
 
-#[derive(Drop)]
+#[derive(Clone, Copy)]
 pub struct Work {
     pub total: usize,
     pub scan: u64,
@@ -11,7 +11,7 @@ pub struct Work {
 }
 
 // A turn of an engine whose state is the start alone: whether that start is a hit, the next start, and the tests.
-#[derive(Drop)]
+#[derive(Clone, Copy)]
 pub struct Turned {
     pub hit: bool,
     pub next: usize,

@@ -5,6 +5,8 @@
 // 1. Where the pattern's end is the text's end no letter stands behind it, so none is read and the run ends; figure 5 reads one.
 // 2. There is a row for each base letter alone. That of a text letter is the union of its members', made when the letter is read; figure 4 holds one for every letter. There is no table of shifts, as figure 3 makes: the pattern is walked, as Sunday does.
 // 3. What is listed is where a hit starts, and not where it ends.
+#![tactic(auto)]
+
 pub mod c;
 mod twice;
 

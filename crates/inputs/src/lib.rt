@@ -1,4 +1,6 @@
 // What a search is given: the checks that refuse it, and what it answers.
+#![tactic(auto)]
+
 pub mod checks;
 pub mod refusal;
 pub mod twice;

@@ -2,13 +2,13 @@
 // answers and equal lent memory: so the call's contract, from which alone this is proved, leaves nothing open.
 use crate::refusal::{Answer, Written};
 
-#[derive(Drop)]
+#[derive(Clone, Copy)]
 pub struct Answers {
     pub first: Answer,
     pub second: Answer,
 }
 
-#[derive(Drop)]
+#[derive(Clone, Copy)]
 pub struct Writings {
     pub first: Written,
     pub second: Written,

@@ -8,6 +8,8 @@
 // 3. Where none is, a table has the shift for each h, not the border; no border of a border is taken, which need not be one (Smyth and Wang, Proposition 2).
 // 4. Of the text the code carries the index after the last unsure letter that met, the paper's right_pos, and no flag beside it: the text under the h letters is single exactly if that index is not past the start.
 // 5. A shift past the last start is cut to the first start past it, where the run ends.
+#![tactic(auto)]
+
 pub mod c;
 mod twice;
 

@@ -1,4 +1,6 @@
 // Lent memory: what a call writes into it, and what it leaves as it was.
+#![tactic(auto)]
+
 ghost use Rattle.std.specs.Prelude.{◌+◌, ◌≤◌, ◌<◌, [], ◌∷◌, length};
 ghost use Rattle.lent.specs.Over.{Stored};
 

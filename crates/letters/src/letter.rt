@@ -2,7 +2,7 @@
 ghost use Rattle.std.specs.Prelude.{◌≡◌};
 ghost use Rattle.letters.specs.Letters.{member, shared, single};
 
-#[derive(Drop)]
+#[derive(Clone, Copy)]
 pub struct Letter {
     pub bits: u32,
 }

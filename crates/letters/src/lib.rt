@@ -1,4 +1,6 @@
 // Letters: sets of base letters, held in bits; strings of them, and the limits of both.
+#![tactic(auto)]
+
 pub mod letter;
 pub mod limits;
 pub mod members;

@@ -5,7 +5,7 @@ ghost use Rattle.letters.specs.Sizes.{outside};
 use crate::letter::Letter;
 use crate::strings::{Pattern, Text};
 
-#[derive(Drop)]
+#[derive(Clone, Copy)]
 pub struct Limits {
     pub k: u32,
     pub m: usize,

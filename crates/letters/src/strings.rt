@@ -1,5 +1,5 @@
 // A pattern and a text: strings of letters, each with the limit of its length, and whether the entry mark may stand in it.
-#[derive(Drop)]
+#[derive(Clone, Copy)]
 pub struct Pattern {
     pub len: usize,
 }
@@ -12,7 +12,7 @@ impl Pattern {
     pub const MARKS: bool = false;
 }
 
-#[derive(Drop)]
+#[derive(Clone, Copy)]
 pub struct Text {
     pub len: usize,
 }

@@ -12,7 +12,7 @@ use lib.ListN.{length, drop, get_or}
 use lib.Pow.{pow_mono}
 use lib.Seq.{drop-cons, drop-length}
 use Rattle.notation.specs.Alphabet.{find}
-use Rattle.notation.specs.Reader.{inside, may_follow, Inner, wrong_byte, closed, on, inner}
+use Rattle.notation.specs.Reader.{may_follow, Inner, wrong_byte, closed, on, inner}
 use Rattle.notation.specs.Answers.{leave, bracket_from}
 use Rattle.notation.specs.declared.lines.Bracket.TheVariants.{After, Wrong}
 use Rattle.letters.proofs.Truth.{and_true_l, and_true_r}

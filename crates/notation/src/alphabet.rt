@@ -5,7 +5,7 @@ ghost use Rattle.notation.specs.Alphabet.{plain, find, TableOf, fresh_from, alph
 use letters::width::byte_index;
 
 // So many bytes of an alphabet: the place after them, or of the first that is wrong or missing.
-#[derive(Drop)]
+#[derive(Clone, Copy)]
 pub enum Bytes {
     After(usize),
     Wrong(usize),

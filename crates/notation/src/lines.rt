@@ -8,14 +8,14 @@ use crate::alphabet::look_up;
 use letters::letter::Letter;
 
 // What the reader of a bracket leaves with: the set and the place after the closer, or the place of the first wrong byte.
-#[derive(Drop)]
+#[derive(Clone, Copy)]
 pub enum Bracket {
     After(u32, usize),
     Wrong(usize),
 }
 
 // What stands at a place of a line: a letter and the place after it, the end and the place after it, or a wrong byte.
-#[derive(Drop)]
+#[derive(Clone, Copy)]
 pub enum One {
     Letter(u32, usize),
     End(usize),
@@ -23,7 +23,7 @@ pub enum One {
 }
 
 // A line: how many letters and the place after it, or the place of the first wrong byte.
-#[derive(Drop)]
+#[derive(Clone, Copy)]
 pub enum Line {
     Counted(usize, usize),
     Wrong(usize),

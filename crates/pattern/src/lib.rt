@@ -1,4 +1,6 @@
 // The prepared pattern: what is worked out from its letters before the text is looked at. And R, which is found when it is asked for.
+#![tactic(auto)]
+
 ghost use Rattle.std.specs.Prelude.{◌≡◌};
 ghost use Rattle.pattern.specs.Last.{after_r};
 ghost use Rattle.pattern.specs.Tables.{sure_prefix};
@@ -8,7 +10,7 @@ use letters::letter::{common, lone};
 pub mod masks;
 pub mod tables;
 
-#[derive(Drop)]
+#[derive(Clone, Copy)]
 pub struct Prepared {
     // the length of the longest prefix of single letters
     pub sure: usize,

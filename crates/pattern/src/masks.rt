@@ -9,7 +9,7 @@ use letters::letter::Letter;
 use letters::members::{lowest, rest};
 use letters::strings::Pattern;
 
-#[derive(Drop)]
+#[derive(Clone, Copy)]
 pub struct Masks {
     pub rows: [u64; Letter::MAX_K as usize],
 }

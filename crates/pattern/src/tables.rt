@@ -9,7 +9,7 @@ use hits::scan::{reach_to, scan_back};
 use letters::strings::Pattern;
 use letters::width::index;
 
-#[derive(Drop)]
+#[derive(Clone, Copy)]
 pub struct Shifts {
     pub by: [u32; Pattern::MAX_M + 1],
 }

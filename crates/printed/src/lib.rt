@@ -1,4 +1,6 @@
 // What the program prints: the report of a sheet, or the line of its refusal.
+#![tactic(auto)]
+
 mod twice;
 
 ghost use Rattle.std.specs.Prelude.{◌≡◌, ◌≤◌, length, take};

@@ -4,7 +4,7 @@ use mathlib.Core.List.{List, [], ◌∷◌}
 use mathlib.Core.Logic.{⊎_elim}
 use mathlib.Core.Bool.{Bool, true, false, ◌&&◌}
 use Prim.Native.Nat.{ℕ, zero, suc, ◌+◌, ◌*◌, ◌/◌, ◌%◌, ◌^◌, ◌≤◌, ◌<◌}
-use native.Mathlib.Nat.{eq-zero-or-pos, zero-add, pow-suc, lt_of_lt_of_le, le_trans, le_of_suc-le-suc, not-suc-le-zero}
+use native.Mathlib.Nat.{eq-zero-or-pos, zero-add, pow-suc, lt_of_lt_of_le, le_of_suc-le-suc, not-suc-le-zero}
 use native.Mathlib.Omega.{arith}
 use borrow.Author.Tests.{lt-ltb, ltb-true}
 use lib.Dec.{T, eqb, eqb→eq, ltb, ltb→lt}
@@ -18,7 +18,7 @@ use Rattle.hits.specs.Counts.{tally}
 use Rattle.inputs.specs.Refusals.{bad}
 use Rattle.inputs.proofs.BadLaws.{good, good_small}
 use Rattle.products.specs.Primes.{primes, product, prime, product_of, first_product, divides, is_product, dividing, letter_of}
-use Rattle.products.proofs.Divisors.{Divides, divides_true, true_divides, divides_le, Prime, prime_test, prime_by, below, below_at, and_l, and_r, implies, implied}
+use Rattle.products.proofs.Divisors.{Divides, divides_true, true_divides, Prime, prime_test, prime_by, below, below_at, and_l, and_r, implies, implied}
 use Rattle.products.proofs.SetLaws.{Primes, set_product, over_members, set_take, set_none, member_divides, set_divides, positive, which_member, some_member, as_set}
 
 -- each test is computed, for all nine at once

@@ -1,4 +1,6 @@
 // Letters as products of primes: the conversions there and back, and whether two products meet.
+#![tactic(auto)]
+
 pub mod c;
 mod checks;
 pub mod convert;

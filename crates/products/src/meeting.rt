@@ -8,7 +8,7 @@ use inputs::refusal::{Check, Refusal};
 use letters::letter::Letter;
 
 // Whether they meet, or the refusal.
-#[derive(Drop)]
+#[derive(Clone, Copy)]
 pub enum Meeting {
     Known(bool),
     Refused(Refusal),

@@ -4,7 +4,7 @@ ghost use Rattle.hits.specs.Counts.{tally};
 ghost use Rattle.products.specs.Primes.{first_product, divides, letter_of};
 
 // A letter as the product of its members' primes.
-#[derive(Drop)]
+#[derive(Clone, Copy)]
 pub struct Product {
     pub value: u32,
 }

@@ -1,4 +1,6 @@
 // Why a start is listed, or is not: what each letter of the pattern shares with the text letter under it.
+#![tactic(auto)]
+
 pub mod c;
 mod twice;
 

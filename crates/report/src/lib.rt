@@ -1,4 +1,6 @@
 // The report of a search sheet: its values first, then their bytes.
+#![tactic(auto)]
+
 pub mod c;
 mod twice;
 pub mod values;
@@ -19,7 +21,7 @@ use reportbytes::lengths::report_len;
 use reportbytes::lines::put_report;
 use sheet::{Sheet, Taken};
 
-#[derive(Drop)]
+#[derive(Clone, Copy)]
 pub struct Report {
     pub len: usize,
 }

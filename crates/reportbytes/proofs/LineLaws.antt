@@ -1,6 +1,6 @@
 -- The bytes of a report: their lengths, and its lines one by one. Assumes nothing.
 use Prim.Native.Nat.{ℕ, ◌+◌, ◌≤◌, ◌<◌}
-use mathlib.Core.Path.{◌≡◌, refl, ap, ◌∙◌}
+use mathlib.Core.Path.{◌≡◌}
 use mathlib.Core.List.{List, [], ◌++◌, map}
 use native.Mathlib.Numerals.{add-one}
 use native.Mathlib.Omega.{arith}
@@ -13,7 +13,7 @@ use Rattle.engines.specs.declared.engine.Engine.{Engine}
 use Rattle.engines.specs.declared.engine.Engine.TheVariants.{Hybrid}
 use Rattle.engines.specs.Engines.{the_six, name_of}
 use Rattle.reportbytes.specs.Values.{Values, run_in}
-use Rattle.reportbytes.specs.Bytes.{hits_name, start_lines, counts, engine_line, engine_lines, bytes_of}
+use Rattle.reportbytes.specs.Bytes.{start_lines, counts, engine_line, engine_lines, bytes_of}
 
 pub counts_length : (r : Run) → length (counts r) ≡ length (ended r.scan 32) + length (ended r.shift 32) + length (ended r.steps 10)
 unfolding counts

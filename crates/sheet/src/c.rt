@@ -49,7 +49,7 @@ pub fn read_called(
     t: &mut [u32],
     sizes: &mut [u64],
 ) -> i64
-    ensures { ReadCalled Sheet.MAX_BYTES Letter.MAX_K Pattern.MAX_M Text.MAX_N s.now (record { alphabet = alphabet.entry.now; pattern = p.old; text = t.old }) sizes.old result (record { alphabet = alphabet.exit.now; pattern = p.new; text = t.new }) sizes.new }
+    ensures { ReadCalled Sheet.MAX_BYTES Letter.MAX_K Pattern.MAX_M Text.MAX_N s.now (record { alphabet = alphabet.old; pattern = p.old; text = t.old }) sizes.old result (record { alphabet = alphabet.new; pattern = p.new; text = t.new }) sizes.new }
 {
     if sizes.len() < 3 {
         return short(measure(s, alphabet, p, t));

@@ -1,4 +1,6 @@
 // The search sheet: its reader. All is checked before anything is written.
+#![tactic(auto)]
+
 pub mod c;
 pub mod measure;
 pub mod plan;
@@ -16,7 +18,7 @@ use letters::strings::{Pattern, Text};
 use notation::alphabet::numbers;
 use notation::lines::put_letters;
 
-#[derive(Drop)]
+#[derive(Clone, Copy)]
 pub struct Sheet {
     pub len: usize,
 }
@@ -34,7 +36,7 @@ impl Sheet {
 }
 
 // How many letters the alphabet, the pattern and the text have.
-#[derive(Drop)]
+#[derive(Clone, Copy)]
 pub struct Sizes {
     pub k: u32,
     pub m: usize,
@@ -42,7 +44,7 @@ pub struct Sizes {
 }
 
 // What the reader answers.
-#[derive(Drop)]
+#[derive(Clone, Copy)]
 pub enum Taken {
     Read(Sizes),
     Refused(Refusal),
@@ -50,7 +52,7 @@ pub enum Taken {
 
 // Reads a sheet into the lent lists, or refuses it and writes nothing.
 pub fn read(sheet: &[u8], alphabet: &mut [u8], pattern: &mut [u32], text: &mut [u32]) -> Taken
-    ensures promise { ReadInto Sheet.MAX_BYTES Letter.MAX_K Pattern.MAX_M Text.MAX_N sheet.now (record { alphabet = alphabet.entry.now; pattern = pattern.old; text = text.old }) result (record { alphabet = alphabet.exit.now; pattern = pattern.new; text = text.new }) }
+    ensures promise { ReadInto Sheet.MAX_BYTES Letter.MAX_K Pattern.MAX_M Text.MAX_N sheet.now (record { alphabet = alphabet.old; pattern = pattern.old; text = text.old }) result (record { alphabet = alphabet.new; pattern = pattern.new; text = text.new }) }
 {
     match plan(sheet, alphabet.len(), pattern.len(), text.len()) {
         Planned::Refused(r) => Taken::Refused(r),

@@ -8,7 +8,7 @@ use letters::strings::{Pattern, Text};
 
 // The answer of reading a sheet into these lists, which keep what they hold.
 pub fn measure(sheet: &[u8], alphabet: &[u8], pattern: &[u32], text: &[u32]) -> Taken
-    ensures promise { Measured Sheet.MAX_BYTES Letter.MAX_K Pattern.MAX_M Text.MAX_N sheet.now (record { alphabet = alphabet.entry.now; pattern = pattern.now; text = text.now }) result }
+    ensures promise { Measured Sheet.MAX_BYTES Letter.MAX_K Pattern.MAX_M Text.MAX_N sheet.now (record { alphabet = alphabet.now; pattern = pattern.now; text = text.now }) result }
 {
     match plan(sheet, alphabet.len(), pattern.len(), text.len()) {
         Planned::Refused(r) => Taken::Refused(r),

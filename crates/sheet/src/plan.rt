@@ -11,7 +11,7 @@ use letters::strings::{Pattern, Text};
 use notation::alphabet::numbers;
 
 // The three counts, and where the three lines begin.
-#[derive(Drop)]
+#[derive(Clone, Copy)]
 pub struct Lines {
     pub k: u32,
     pub alphabet: usize,
@@ -21,7 +21,7 @@ pub struct Lines {
     pub text: usize,
 }
 
-#[derive(Drop)]
+#[derive(Clone, Copy)]
 pub enum Planned {
     Whole(Lines),
     Refused(Refusal),

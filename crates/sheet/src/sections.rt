@@ -13,14 +13,14 @@ use notation::alphabet::{Bytes, read_line};
 use notation::lines::{Line, count_letters};
 
 // A section: its count, where its line begins, and the place after it.
-#[derive(Drop)]
+#[derive(Clone, Copy)]
 pub enum Found {
     At(usize, usize, usize),
     Refused(Refusal),
 }
 
 // How many letters a section may have, which number refuses any other count, whether marks may stand among them, and how many there is room for.
-#[derive(Drop)]
+#[derive(Clone, Copy)]
 pub struct Bounds {
     pub least: usize,
     pub most: usize,
@@ -30,7 +30,7 @@ pub struct Bounds {
 }
 
 // The two counts, and where the two lines begin.
-#[derive(Drop)]
+#[derive(Clone, Copy)]
 pub struct Places {
     pub m: usize,
     pub pattern: usize,
@@ -38,7 +38,7 @@ pub struct Places {
     pub text: usize,
 }
 
-#[derive(Drop)]
+#[derive(Clone, Copy)]
 pub enum Both {
     Whole(Places),
     Refused(Refusal),

@@ -6,6 +6,8 @@
 // 2. There is a row for each base letter alone. That of a text letter is the union of its members' rows, made when the letter is read.
 // 3. What is listed is where a hit starts, and not where it ends.
 // 4. A pattern longer than the text takes no step.
+#![tactic(auto)]
+
 pub mod c;
 mod twice;
 

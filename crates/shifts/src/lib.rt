@@ -1,4 +1,6 @@
 // What KMP and BM share: the scan of a stretch, and the shift found by trying.
+#![tactic(auto)]
+
 ghost use Rattle.std.specs.Prelude.{◌≡◌, min, max, ◌+◌, ◌-◌, ◌^◌, ◌≤◌, ◌<◌, length};
 ghost use Rattle.shifts.specs.Least.{least};
 ghost use Rattle.shifts.specs.Shift.{fit, trials};
@@ -6,7 +8,7 @@ ghost use Rattle.shifts.specs.Shift.{fit, trials};
 use hits::scan::reach_to;
 use hits::work::count;
 
-#[derive(Drop)]
+#[derive(Clone, Copy)]
 pub struct Trials {
     pub by: usize,
     pub tests: u64,

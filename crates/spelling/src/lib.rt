@@ -1,4 +1,6 @@
 // Letters in their notation: how many bytes spell a letter or a line of letters, and those bytes, written one after another.
+#![tactic(auto)]
+
 ghost use Rattle.std.specs.Prelude.{◌≡◌, ◌+◌, ◌^◌, ◌≤◌, ◌<◌, length};
 ghost use Rattle.letters.specs.Sizes.{Below};
 ghost use Rattle.lent.specs.Over.{Stored};

@@ -7,6 +7,8 @@
 // 1. Figure 3 makes a table of shifts, filled under the pattern's letter with the position in place of the shift; here there is no table: the pattern is walked from its right end to the first letter that meets, and the shift is worked out from where it stands.
 // 2. Figure 5 reads the letter after the window where there is none, at the text's end; here it is read only if there is one.
 // 3. The letter after the window may be unsure: the walk asks for a letter that shares any of its members, so that the greatest R over them counts, which is the least of their shifts. An entry mark meets nothing, so that its R is none.
+#![tactic(auto)]
+
 pub mod c;
 mod twice;
 

@@ -1,4 +1,6 @@
 // The state of the word engines, held in one word of 64 bits.
+#![tactic(auto)]
+
 ghost use Rattle.std.specs.Prelude.{◌≡◌, ◌+◌, ◌-◌, ◌^◌, ◌<◌};
 ghost use Rattle.letters.specs.Members.{members, union_of};
 ghost use Rattle.hits.specs.Counts.{tally, noted};

@@ -1,4 +1,6 @@
 // The writer of a search sheet: the checks, the length, then the bytes.
+#![tactic(auto)]
+
 mod bytes;
 pub mod c;
 mod twice;

@@ -1,0 +1,10 @@
+-- `bound::c::choice_called` meets its contract: what is told of the answer about a start. Assumes nothing.
+use mathlib.Core.Path.{◌∙◌}
+use Rattle.codes.proofs.SignedLaws.{read_back}
+use Rattle.bound.proofs.CallLaws.{choice_called}
+use Rattle.bound.proofs.c.choice_called.Goals as goal
+
+pub returns : goal.returns
+returns c =
+    let a = c.args in
+    choice_called _ _ _ a.k a.p.now a.t.now a.start a.choice.now _ _ c.choose.ensures _ (read_back _ c.told_choice.type_inv ∙ c.told_choice.ensures)

@@ -1,0 +1,12 @@
+-- `breakwarp::twice::to_products_twice` meets its contract, by that of `breakwarp_to_products` alone. Assumes nothing.
+use mathlib.Core.Path.{sym, ap}
+use lib.IntN.{ℤ}
+use mir.Syntax.{w64}
+use mir.Val.{to_z, of_z}
+use Rattle.promise.proofs.Uniqueness.{one_outcome}
+use Rattle.breakwarp.proofs.twice.to_products_twice.Goals as goal
+
+pub returns : goal.returns
+returns c =
+    let o = one_outcome c.breakwarp_to_products-first.ensures (rw (sym c.requires) at c.breakwarp_to_products-second.ensures) in
+    (ap (λ (z : ℤ). to_z w64 (of_z w64 z)) o.0, o.1)

@@ -1,0 +1,7 @@
+-- `kmp::twice::search_twice` meets its contract, by that of `search` alone. Assumes nothing.
+use mathlib.Core.Path.{sym}
+use Rattle.promise.proofs.Uniqueness.{one_outcome}
+use Rattle.kmp.proofs.twice.search_twice.Goals as goal
+
+pub returns : goal.returns
+returns c = one_outcome c.search-first.ensures.promise (rw (sym c.requires) at c.search-second.ensures.promise)

@@ -1,0 +1,20 @@
+-- `products::checks::check_letters` meets its contract: the sizes decide, or the elements. Assumes nothing.
+use mathlib.Core.Path.{sym, ◌∙◌}
+use native.Mathlib.Omega.{arith}
+use Rattle.inputs.proofs.CheckLaws.{both_passed, both_refused}
+use Rattle.products.specs.Conversions.{convert_verdict, to_verdict}
+use Rattle.products.proofs.CheckLaws.{sizes_on, sizes_both}
+use Rattle.products.proofs.checks.check_letters.Goals as goal
+
+pub first_bad-requires : goal.first_bad-requires
+first_bad-requires c = omega (arith, (sizes_on _ _ _ _ _ _ (sym c.in-Passed.ensures)).0.fits)
+
+pub returns-in-Refused : goal.returns-in-Refused
+unfolding to_verdict convert_verdict
+returns-in-Refused c = sym (sizes_both _ _ _ _ _ _ ∙ both_refused _ _ _ (sym c.in-Refused.ensures))
+
+pub returns-in-Passed : goal.returns-in-Passed
+unfolding to_verdict convert_verdict
+returns-in-Passed c =
+    (rw c.first_bad.ensures at c.check_elements.ensures)
+    ∙ sym (sizes_both _ _ _ _ _ _ ∙ both_passed _ _ (sym c.in-Passed.ensures))

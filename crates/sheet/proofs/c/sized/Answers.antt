@@ -1,0 +1,21 @@
+-- `sheet::c::sized` meets its contract: three stores are the sizes over the list's front. Assumes nothing.
+use borrow.Author.Rules.{rules}
+use mathlib.Core.Path.{refl, ap, ◌∙◌}
+use mathlib.Core.List.{[], ◌∷◌}
+use Prim.Native.Nat.{ℕ}
+use lib.ListN.{length-set}
+use lib.Seq.{sets}
+use Rattle.lent.proofs.OverLaws.{sets_over}
+use Rattle.codes.proofs.SignedLaws.{read_back}
+use Rattle.sheet.proofs.c.sized.Goals as goal
+
+pub bounds-sizes-1 : goal.bounds-sizes-1
+bounds-sizes-1 c = simp length-set (search rules)
+
+pub returns-in-Refused : goal.returns-in-Refused
+returns-in-Refused c = rw c.in-Refused.is (read_back _ c.refusal_code.type_inv ∙ c.refusal_code.ensures, refl)
+
+pub returns-in-Read : goal.returns-in-Read
+returns-in-Read c =
+    let z = c.args.sizes.now in
+    rw c.in-Read.is (refl, ap (λ (k : ℕ). sets z 0 (k ∷ c.in-Read.z.m ∷ c.in-Read.z.n ∷ [])) c.wide.ensures ∙ sets_over z _)
