@@ -1,67 +1,77 @@
-// Input read to its end, and output written whole, over the C library's read and write. A call that a signal interrupts is made again, and
+// Input read to its end, and output written whole, over a reader's `read` and a writer's `write`. A call that a signal interrupts is made again, and
 // one that fails is told apart from an input that ends.
-ghost use Rattle.std.specs.Prelude.{◌≡◌, true, ◌≤◌, ◌<◌, length};
-ghost use Rattle.streams.specs.Got.{got_of};
+#![tactic(auto)]
 
-use libc::EINTR;
+mod told;
+
+ghost use Rattle.std.specs.Prelude.{◌≡◌, true, ◌≤◌, ◌<◌, length, OnErr, OnOk};
+ghost use Rattle.std.specs.Io.KnownBytes.{Appends};
+ghost use Rattle.streams.specs.Front.{PutFront};
+ghost use Rattle.streams.specs.Got.{got_of, Took};
+
+use std::io::{Error, ErrorKind, Read, Result, Write};
+pub use told::tell;
 
 // What reading to the end comes to.
-#[derive(Drop)]
+#[derive(Clone, Copy)]
 pub enum Got {
     Bytes(usize),
-    Failed,
+    Failed(Error),
 }
 
 // So many interruptions are borne, so that every function ends.
 const PATIENCE: usize = 1000000;
 
 // Whether a call that failed is to be made again: it was interrupted, and there is patience left.
-fn try_again(patience: usize) -> bool
+fn try_again(patience: usize, error: &Error) -> bool
     ensures { result ≡ true → 0 < patience }
 {
     if patience == 0 {
         return false;
     }
-    os::errno() == EINTR
+    error.kind() == ErrorKind::Interrupted
 }
 
 // Reads until the list is full or the input ends; answers how many bytes stand in front of it.
-pub fn read_whole(fd: i32, list: &mut [u8]) -> Got
-    ensures { got_of result ≤ length list.new }
+pub fn read_whole<R: Read>(input: &mut R, list: &mut [u8]) -> Got
+    ensures fits { got_of result ≤ length list.new }
+    ensures took { Took (R.remaining input.old) (R.remaining input.new) result list.new }
 {
     let mut done: usize = 0;
     let mut patience = PATIENCE;
     while done < list.len() {
-        let got = libc::read(fd, &mut list[done..]);
-        let n = io::count(got, &list[done..]);
-        if n == 0 {
-            if got == 0 {
-                return Got::Bytes(done);
+        match input.read(&mut list[done..]) {
+            Ok(0) => return Got::Bytes(done),
+            Ok(n) => done += n,
+            Err(error) => {
+                if !try_again(patience, &error) {
+                    return Got::Failed(error);
+                }
+                patience -= 1;
             }
-            if !try_again(patience) {
-                return Got::Failed;
-            }
-            patience -= 1;
         }
-        done += n;
     }
     Got::Bytes(done)
 }
 
-// Writes all of the list; answers whether that was done.
-pub fn write_whole(fd: i32, list: &[u8]) -> bool {
+// Writes all of the list, or answers why that was not done.
+pub fn write_whole<W: Write>(output: &mut W, list: &[u8]) -> Result<()>
+    ensures all { OnOk result (Appends (W.contents output.old) (W.contents output.new) list.now) }
+    ensures front { OnErr result (PutFront (W.contents output.old) (W.contents output.new) list.now) }
+{
     let mut done: usize = 0;
     let mut patience = PATIENCE;
     while done < list.len() {
-        let put = libc::write(fd, &list[done..]);
-        let n = io::count(put, &list[done..]);
-        if n == 0 {
-            if !try_again(patience) {
-                return false;
+        match output.write(&list[done..]) {
+            Ok(0) => return Err(Error::from(ErrorKind::WriteZero)),
+            Ok(n) => done += n,
+            Err(error) => {
+                if !try_again(patience, &error) {
+                    return Err(error);
+                }
+                patience -= 1;
             }
-            patience -= 1;
         }
-        done += n;
     }
-    true
+    Ok(())
 }
