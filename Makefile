@@ -5,7 +5,7 @@ VERSION := $(shell sed -n 's/^.define BREAKWARP_VERSION "\(.*\)".*/\1/p' c/break
 I = $(DESTDIR)$(PREFIX)
 LIB = target/staticlib/libbreakwarp.a
 PROGRAM = target/bin/search
-SOURCES = crates.txt $(shell find crates -name '*.rt' -o -name '*.antt')
+SOURCES = crates.txt $(shell find crates -path '*/out' -prune -o \( -name '*.rt' -o -name '*.antt' \) -print)
 CALLS = brute kmp bm sunday shiftand hybrid first bound bound_choice reasons to_products from_products products_meet read_sheet write_sheet report
 .PHONY: help search sheet program lib test bench beside fmt install uninstall clean
 .DELETE_ON_ERROR:
@@ -18,7 +18,7 @@ help:
 	@echo 'make bench                              time the six searches and the first hit beside the same in plain C, and the reader'
 	@echo 'make beside BEFORE=..                   time the library beside another archive of it, both in one program'
 	@echo 'make fmt                                lay out every .rt and .antt file'
-	@echo 'make clean                              remove target/, where all that is built lies'
+	@echo 'make clean                              remove all that is built: target/, and out/ of each crate'
 
 search: sheet $(PROGRAM)
 	@$(PROGRAM) < "$(SHEET)"
@@ -32,20 +32,19 @@ lib: $(LIB)
 
 $(PROGRAM): $(SOURCES)
 	@bash .ci/need rt
-	@bash .ci/proving target/search.out search rt check search
-	@touch $@
+	@bash .ci/proving target/search.out search rt run < /dev/null
+	@install -D -m 755 crates/search/out/search $@
 
 # The functions are set to lines of 64 bytes, and the searches moved within their line as c/place.ld says, code unchanged: a short loop that crosses a
 # line can take twice as long (docs/SPEED.md).
 PLACE = target/place
 $(LIB): $(SOURCES) c/place.ld
 	@bash .ci/need rt binutils
-	@bash .ci/proving target/lib.out breakwarp rt staticlib breakwarp
-	@rm -rf $(PLACE) && mkdir -p $(PLACE)
-	@cp $@ $(PLACE)/kit.a && cd $(PLACE) && ar x kit.a && objcopy --set-section-alignment '.text.*=8' breakwarp.o kit.o
+	@bash .ci/proving target/lib.out breakwarp rt lib
+	@rm -rf $(PLACE) && mkdir -p $(PLACE) $(@D)
+	@cp crates/breakwarp/out/libbreakwarp.a $(PLACE)/kit.a && cd $(PLACE) && ar x kit.a && objcopy --set-section-alignment '.text.*=8' breakwarp.o kit.o
 	@ld -r -T c/place.ld $(PLACE)/kit.o -o $(PLACE)/breakwarp.o && objcopy --set-section-alignment '.text.*=64' $(PLACE)/breakwarp.o
-	@rm $@ && ar rcs $@ $(PLACE)/breakwarp.o
-	@touch $@
+	@rm -f $@ && ar rcs $@ $(PLACE)/breakwarp.o
 
 test:
 	bash .ci/run
@@ -54,7 +53,7 @@ test:
 # The means are taken in four links. The archive's functions stand at lines of 64, so that the bytes put before it move nothing within a line
 # (docs/SPEED.md): the four show how far runs differ. The run goes to $(BENCH)/run.txt, and
 # the tables that are made of it and of the run before to $(BENCH)/tables.md.
-CC_K ?= $(firstword $(wildcard $(dir $(shell readlink -f `which rt`))../on/x86_64/toolchain/bin/clang) $(shell which clang) cc)
+CC_K ?= $(firstword $(wildcard $(dir $(shell readlink -f `which rt`))../toolchain/bin/clang) $(shell which clang) cc)
 BENCH = target/bench
 bench: $(LIB)
 	@bash .ci/need gcc
@@ -95,7 +94,7 @@ beside: $(LIB)
 	@$(BESIDE)/bench && echo && $(BESIDE)/bench grow && echo && $(BESIDE)/bench walk && echo && $(BESIDE)/bench first && echo && $(BESIDE)/reader
 
 fmt:
-	rt fmt
+	@for crate in crates/*/; do (cd $$crate && rt fmt) || exit 1; done
 
 install: $(LIB) $(PROGRAM)
 	install -d $(I)/include $(I)/lib/pkgconfig $(I)/bin $(I)/share/man/man1 $(I)/share/man/man3 $(I)/share/doc/breakwarp
@@ -115,4 +114,4 @@ uninstall:
 	rmdir $(I)/share/doc/breakwarp 2>/dev/null || true
 
 clean:
-	rm -rf target
+	rm -rf target crates/*/out
