@@ -13,10 +13,10 @@ use Rattle.letters.specs.Sizes.{Sized}
 use Rattle.letters.proofs.Truth.{bool_cases}
 use Rattle.hits.specs.Hits.{within, hit_at, hits}
 use Rattle.hits.specs.Turns.{Turn, Run, idle}
-use Rattle.hits.specs.Counts.{turn_of}
-use Rattle.hits.specs.declared.work.Turned.{Turned}
 use Rattle.hits.proofs.HitLaws.{hit_is, no_hit, one_from}
-use Rattle.hits.proofs.RunLaws.{Sound, finds_all, bounded, Passing, by_start, per_start, no_start, start_small, shift_small}
+use Rattle.hits.proofs.RunLaws.{Sound, finds_all, bounded, by_start, per_start, no_start, start_small, shift_small}
+use Rattle.inputs.specs.Starts.{Settling}
+use Rattle.inputs.proofs.StartLaws.{passing}
 use Rattle.shifts.specs.Least.{least}
 use Rattle.shifts.specs.Shift.{fit, trials}
 use Rattle.hits.specs.Singles.{all_single}
@@ -84,8 +84,8 @@ module _ (P T : List ℕ) (i : ℕ) where
       (λ e. y (eqb-true _ _ e))
       (λ e. let q = eqb-false (end_met P T i) (length P) e in n (omega arith))
 
-  by_le : 0 < length P → by ≤ length P
-  by_le pos =
+  by_le : by ≤ 1 + (length P - 1)
+  by_le =
       let f = first_le P T i (end_met P T i) in
       end_cases
       (λ e. let z = second_hit P T i (end_met P T i) e in omega arith)
@@ -115,22 +115,16 @@ module _ (P T : List ℕ) (i : ℕ) where
       (λ (k : end_met P T i < length P). lt-leb (length P) (end_met P T i) k ∙ sym (ne_eqb (end_met P T i) (length P) (λ e. omega arith))))
 
 module _ (P T : List ℕ) where
-  -- a turn moves on, and not past the text's end
-  pub turn_ahead : 0 < length P → (i : ℕ) → i + length P ≤ length T → (r : Turned) → turn_of i r ≡ bm_turn P T i → (i < r.next) × (r.next ≤ length T)
-  unfolding bm_turn
-  turn_ahead pos i l r e = omega (arith, ap (λ (t : Turn ℕ). t.next) e, first_ge P T i (end_met P T i), by_le P T i pos)
-
   -- each turn settles the starts that it passes
-  pub passing : Passing P T (bm_turn P T)
+  pub settles : Settling P T (bm_turn P T)
   unfolding bm_turn
-  passing i l =
+  settles i l =
       let g = first_ge P T i (end_met P T i) in
       let z : by P T i ≡ suc (by P T i - 1) = omega arith in
       record {
-        falls = omega arith;
-        still = tt;
-        gap = suc (by P T i - 1);
+        more = by P T i - 1;
         moved = ap (λ (x : ℕ). i + x) z;
+        near = omega (arith, by_le P T i);
         right =
             ap (λ (b : Bool). keep b i []) (end_hit P T i l)
             ∙ sym
@@ -139,7 +133,7 @@ module _ (P T : List ℕ) where
       }
 
   unfoldable pub sound : Sound P T (within P T) (bm_turn P T) (suc (length T)) 0
-  sound = by_start passing
+  sound = by_start (passing settles)
 
   -- the rule's run finds exactly the hits
   pub bm_finds : (bm_run P T).found ≡ hits P T
@@ -149,7 +143,7 @@ module _ (P T : List ℕ) where
   -- scan tests: at most m (n - m + 1)
   pub bm_scan : (bm_run P T).scan ≤ length P * (length T + 1 - length P)
   unfolding bm_run bm_turn
-  bm_scan = per_start passing (λ (r : Run). r.scan) (λ (t : Turn ℕ). t.scan) refl (λ t r. refl) (length P) (λ i. back_tests_le P T i (length P))
+  bm_scan = per_start (passing settles) (λ (r : Run). r.scan) (λ (t : Turn ℕ). t.scan) refl (λ t r. refl) (length P) (λ i. back_tests_le P T i (length P))
 
   tests_cut : (i g : ℕ) → first_tests P T i g ≤ trials P T i (length P - g) (length P) 1 (length P - 1)
   unfolding first_tests
@@ -159,20 +153,30 @@ module _ (P T : List ℕ) where
   abbrev room : ℕ → ℕ
   room i = (length P - 1) * (length T - length P - i)
 
-  pays : 0 < length P → (i : ℕ) → (bm_turn P T i).shift + room (bm_turn P T i).next ≤ room i
+  pays_some : 0 < length P → (i : ℕ) → (bm_turn P T i).shift + room (bm_turn P T i).next ≤ room i
   unfolding bm_turn first_shift
-  pays pos i =
+  pays_some pos i =
       let g = end_met P T i in
       let z : i + 0 ≡ i = omega arith in
       let e = rw z at (trials_pay P T i (length P - g) (length P) pos (omega arith) (omega arith) 0 (length P - 1)) in
       let a : length T - length P - (i + by P T i) ≤ length T - length P - (i + least (fit P T i (length P - g) (length P)) 1 (length P - 1)) = omega arith in
       omega (arith, e, tests_cut i g, mul-le-mul_left (length P - 1) a)
 
+  -- an empty pattern tries no shift
+  pays_none : length P - 1 ≡ 0 → (i : ℕ) → (bm_turn P T i).shift + room (bm_turn P T i).next ≤ room i
+  unfolding bm_turn trials
+  pays_none z i =
+      let e = rw z at (tests_cut i (end_met P T i)) in
+      rw z (omega (arith, e))
+
+  pays : (i : ℕ) → (bm_turn P T i).shift + room (bm_turn P T i).next ≤ room i
+  pays i = bool_cases (ltb 0 (length P)) (λ y. pays_some (ltb-true _ _ y) i) (λ n. let z : length P ≤ 0 = ltb-false _ _ n in pays_none (omega arith) i)
+
   -- shift tests: at most (n - m)(m - 1); so none where the pattern is longer than the text
-  pub bm_shift : 0 < length P → (bm_run P T).shift ≤ (length T - length P) * (length P - 1)
+  pub bm_shift : (bm_run P T).shift ≤ (length T - length P) * (length P - 1)
   unfolding bm_run sound by_start
-  bm_shift pos =
-      let h = bounded sound (λ (r : Run). r.shift) (λ (t : Turn ℕ). t.shift) refl (λ t r. refl) room (λ i o y. pays pos i) in
+  bm_shift =
+      let h = bounded sound (λ (r : Run). r.shift) (λ (t : Turn ℕ). t.shift) refl (λ t r. refl) room (λ i o y. pays i) in
       let z : length T - length P - 0 ≡ length T - length P = omega arith in
       rw (mul_comm (length T - length P) (length P - 1)) (rw z at h)
 
@@ -186,4 +190,4 @@ pub bm_scan_small : {M N : ℕ} {P T : List ℕ} → Sized M N P T → (bm_run P
 bm_scan_small {M} {N} {P} {T} s = start_small s (bm_run P T).scan (bm_scan P T)
 
 pub bm_shift_small : {M N : ℕ} {P T : List ℕ} → Sized M N P T → (bm_run P T).shift ≤ N * M
-bm_shift_small {M} {N} {P} {T} s = shift_small s (bm_run P T).shift (bm_shift P T s.pattern.some)
+bm_shift_small {M} {N} {P} {T} s = shift_small s (bm_run P T).shift (bm_shift P T)

@@ -18,6 +18,7 @@ use Rattle.hits.specs.Hits.{met}
 use Rattle.hits.proofs.BackLaws.{tests_back}
 use Rattle.shifts.proofs.LeastLaws.{least_here}
 use Rattle.bm.specs.Bm.{end_met, first_shift, first_tests, fail_shift, second_shift, bm_turn}
+use Rattle.hits.specs.declared.scan.Back.{Back}
 use Rattle.bm.specs.Steps.{Stopped}
 use Rattle.bm.proofs.BmLaws.{first_ge, first_le, fail_ge, fail_le, second_hit, second_miss}
 
@@ -67,8 +68,22 @@ module _ (P T : List ℕ) (i g : ℕ) (e : g ≡ end_met P T i) where
   unfolding bm_turn
   turn_is hit by sc sh eh eb ec es = rw (eh, eb, ec, es, e, tests_back P T i (length P))
 
+-- where the scan stopped, by what is worked out from P and what the scan answers
+pub stopped : {P T : List ℕ} {i : ℕ} {whole : Bool} {b : Back} → whole ≡ all_single P 0 (length P) → i + length P ≤ length T
+    → (b.left ≤ length P) × (length P - b.left ≡ end_met P T i) × (b.sure ≡ (whole && all_single T (i + b.left) (length P - b.left))) → Stopped P T i b
+stopped {P} {T} {i} {whole} {b} w l e =
+    record {
+      inside = l;
+      top = e.0;
+      rest = e.1;
+      single = e.2 ∙ ap (λ (x : Bool). x && all_single T (i + b.left) (length P - b.left)) w;
+    }
+
 -- the same by the letters that are left
-module _ (P T : List ℕ) (i left : ℕ) (sure : Bool) (pos : 0 < length P) (h : Stopped P T i left sure) where
+module _ {P T : List ℕ} {i : ℕ} {b : Back} (pos : 0 < length P) (h : Stopped P T i b) where
+  abbrev left : ℕ
+  left = b.left
+
   abbrev g : ℕ
   g = length P - left
 

@@ -5,31 +5,24 @@ pub mod c;
 pub mod choice;
 mod twice;
 
-ghost use Rattle.std.specs.Prelude.{◌≡◌, ◌+◌, ◌≤◌, length};
+ghost use Rattle.std.specs.Prelude.{◌≡◌, ◌+◌, ◌≤◌, length, take};
 ghost use Rattle.letters.specs.Sizes.{SizedPattern, Sized};
 ghost use Rattle.lent.specs.Over.{over};
 ghost use Rattle.choices.specs.Choices.{bound_at, bound_hits};
-ghost use Rattle.choices.specs.Candidates.{Fresh};
 ghost use Rattle.bound.specs.Bound.{BoundSearched};
 
 use choices::{letters_of, narrow};
 use hits::scan::reach_to;
 use hits::work::note;
 use inputs::checks::checked;
-use inputs::refusal::{Check, Refusal};
+use inputs::refusal::Refusal;
 use letters::letter::Letter;
 use letters::strings::{Pattern, Text};
 
-// How many starts are bound-listed, or the refusal.
-#[derive(Clone, Copy)]
-pub enum Bound {
-    Total(usize),
-    Refused(Refusal),
-}
-
 // Whether start i is bound-listed. Only a hit is tried, and on its own copy of what the pairs may be given.
+#[tactic(auto, using(choices::proofs::BoundLaws::missed_bound))]
 fn is_listed(p: &[u32], t: &[u32], i: usize, letters: &[u32; Pattern::MAX_M]) -> bool
-    requires { SizedPattern Pattern.MAX_M p.now × (i + length p.now ≤ length t.now) × Fresh p.now letters.now }
+    requires { SizedPattern Pattern.MAX_M p.now × (i + length p.now ≤ length t.now) × (take (length p.now) letters.now ≡ p.now) }
     ensures { result ≡ bound_at p.now t.now i }
 {
     let m = p.len();
@@ -40,30 +33,26 @@ fn is_listed(p: &[u32], t: &[u32], i: usize, letters: &[u32; Pattern::MAX_M]) ->
     narrow(p, t, i, &mut own)
 }
 
-// The run over all starts.
+// The run over all starts at which the pattern fits. How many are bound-listed.
 fn run(p: &[u32], t: &[u32], list: &mut [u32]) -> usize
     requires { Sized Pattern.MAX_M Text.MAX_N p.now t.now }
     ensures { (result ≡ length (bound_hits p.now t.now)) × (list.new ≡ over (bound_hits p.now t.now) list.old) }
 {
-    let m = p.len();
-    let n = t.len();
+    let starts = (t.len() + 1).saturating_sub(p.len());
     let letters = letters_of(p);
-    let mut i = 0;
     let mut total = 0;
-    while i + m <= n {
+    for i in 0..starts {
         let listed = is_listed(p, t, i, &letters);
         total = note(list, total, i, listed);
-        i += 1;
     }
     total
 }
 
-// Every bound-listed start.
-pub fn search(k: u32, p: &[u32], t: &[u32], list: &mut [u32]) -> Bound
+// Every bound-listed start; how many there are.
+#[tactic(auto, using(inputs::proofs::CheckLaws::sized))]
+pub fn search(k: u32, p: &[u32], t: &[u32], list: &mut [u32]) -> Result<usize, Refusal>
     ensures { BoundSearched Letter.MAX_K Pattern.MAX_M Text.MAX_N k p.now t.now list.old result list.new }
 {
-    match checked(k, p, t) {
-        Check::Refused(r) => Bound::Refused(r),
-        Check::Passed => Bound::Total(run(p, t, list)),
-    }
+    checked(k, p, t)?;
+    Ok(run(p, t, list))
 }

@@ -18,7 +18,12 @@ ghost use Rattle.sheet.specs.Called.{ReadCalled};
 ghost use Rattle.writer.specs.Writer.{WriteCalled};
 ghost use Rattle.report.specs.Report.{ReportCalled};
 
+use bm::Bm;
 use bound::c::choice_called;
+use brute::Brute;
+use codes::search::called;
+use hybrid::Hybrid;
+use kmp::Kmp;
 use letters::letter::Letter;
 use letters::strings::{Pattern, Text};
 use products::c::{from_called, meet_called, to_called};
@@ -26,6 +31,8 @@ use products::product::Product;
 use report::c::report_called;
 use sheet::Sheet;
 use sheet::c::read_called;
+use shiftand::ShiftAnd;
+use sunday::Sunday;
 use writer::c::write_called;
 
 #[unsafe(no_mangle)]
@@ -38,7 +45,7 @@ pub extern "C" fn breakwarp_brute(
 ) -> i64
     ensures { Called brute_run Letter.MAX_K Pattern.MAX_M Text.MAX_N k p.now t.now hits.old work.old result hits.new work.new }
 {
-    brute::c::called(k, p, t, hits, work)
+    called::<Brute>(k, p, t, hits, work)
 }
 
 #[unsafe(no_mangle)]
@@ -51,7 +58,7 @@ pub extern "C" fn breakwarp_kmp(
 ) -> i64
     ensures { Called kmp_run Letter.MAX_K Pattern.MAX_M Text.MAX_N k p.now t.now hits.old work.old result hits.new work.new }
 {
-    kmp::c::called(k, p, t, hits, work)
+    called::<Kmp>(k, p, t, hits, work)
 }
 
 #[unsafe(no_mangle)]
@@ -64,7 +71,7 @@ pub extern "C" fn breakwarp_bm(
 ) -> i64
     ensures { Called bm_run Letter.MAX_K Pattern.MAX_M Text.MAX_N k p.now t.now hits.old work.old result hits.new work.new }
 {
-    bm::c::called(k, p, t, hits, work)
+    called::<Bm>(k, p, t, hits, work)
 }
 
 #[unsafe(no_mangle)]
@@ -77,7 +84,7 @@ pub extern "C" fn breakwarp_sunday(
 ) -> i64
     ensures { Called sunday_run Letter.MAX_K Pattern.MAX_M Text.MAX_N k p.now t.now hits.old work.old result hits.new work.new }
 {
-    sunday::c::called(k, p, t, hits, work)
+    called::<Sunday>(k, p, t, hits, work)
 }
 
 #[unsafe(no_mangle)]
@@ -90,7 +97,7 @@ pub extern "C" fn breakwarp_shiftand(
 ) -> i64
     ensures { Called shiftand_run Letter.MAX_K Pattern.MAX_M Text.MAX_N k p.now t.now hits.old work.old result hits.new work.new }
 {
-    shiftand::c::called(k, p, t, hits, work)
+    called::<ShiftAnd>(k, p, t, hits, work)
 }
 
 #[unsafe(no_mangle)]
@@ -103,7 +110,7 @@ pub extern "C" fn breakwarp_hybrid(
 ) -> i64
     ensures { Called hybrid_run Letter.MAX_K Pattern.MAX_M Text.MAX_N k p.now t.now hits.old work.old result hits.new work.new }
 {
-    hybrid::c::called(k, p, t, hits, work)
+    called::<Hybrid>(k, p, t, hits, work)
 }
 
 #[unsafe(no_mangle)]

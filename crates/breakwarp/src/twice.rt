@@ -1,6 +1,6 @@
 // Each call made twice, on equal inputs: equal answers, and equal lent memory.
 ghost use Rattle.std.specs.Prelude.{◌≡◌};
-ghost use Rattle.codes.specs.Called.{Lists};
+ghost use Rattle.codes.specs.Called.{Called, Lists};
 ghost use Rattle.sheet.specs.Reader.{Strings};
 ghost use Rattle.sheet.specs.Called.{Lent};
 
@@ -10,14 +10,60 @@ use crate::{
     breakwarp_read_sheet, breakwarp_reasons, breakwarp_report, breakwarp_shiftand,
     breakwarp_sunday, breakwarp_to_products, breakwarp_write_sheet,
 };
+use bm::Bm;
+use brute::Brute;
+use hybrid::Hybrid;
+use inputs::rule::Rule;
+use inputs::twice::Twice;
+use kmp::Kmp;
+use letters::letter::Letter;
+use letters::strings::{Pattern, Text};
+use shiftand::ShiftAnd;
+use sunday::Sunday;
 
-#[derive(Drop)]
-struct Codes {
-    first: i64,
-    second: i64,
+// The export that searches by a rule: all six are called with the same and promise the same of their rules.
+trait Export: Rule {
+    fn call(k: u32, p: &[u32], t: &[u32], hits: &mut [u32], work: &mut [u64]) -> i64
+        ensures { Called Self.turns Letter.MAX_K Pattern.MAX_M Text.MAX_N k p.now t.now hits.old work.old result hits.new work.new };
 }
 
-fn brute_twice(
+impl Export for Brute {
+    fn call(k: u32, p: &[u32], t: &[u32], hits: &mut [u32], work: &mut [u64]) -> i64 {
+        breakwarp_brute(k, p, t, hits, work)
+    }
+}
+
+impl Export for Kmp {
+    fn call(k: u32, p: &[u32], t: &[u32], hits: &mut [u32], work: &mut [u64]) -> i64 {
+        breakwarp_kmp(k, p, t, hits, work)
+    }
+}
+
+impl Export for Bm {
+    fn call(k: u32, p: &[u32], t: &[u32], hits: &mut [u32], work: &mut [u64]) -> i64 {
+        breakwarp_bm(k, p, t, hits, work)
+    }
+}
+
+impl Export for Sunday {
+    fn call(k: u32, p: &[u32], t: &[u32], hits: &mut [u32], work: &mut [u64]) -> i64 {
+        breakwarp_sunday(k, p, t, hits, work)
+    }
+}
+
+impl Export for ShiftAnd {
+    fn call(k: u32, p: &[u32], t: &[u32], hits: &mut [u32], work: &mut [u64]) -> i64 {
+        breakwarp_shiftand(k, p, t, hits, work)
+    }
+}
+
+impl Export for Hybrid {
+    fn call(k: u32, p: &[u32], t: &[u32], hits: &mut [u32], work: &mut [u64]) -> i64 {
+        breakwarp_hybrid(k, p, t, hits, work)
+    }
+}
+
+fn search_twice<E: Export>(
     k: u32,
     p: &[u32],
     t: &[u32],
@@ -25,118 +71,34 @@ fn brute_twice(
     w: &mut [u64],
     b: &mut [u32],
     v: &mut [u64],
-) -> Codes
+) -> Twice<i64>
     requires { ◌≡◌ {A = Lists} (record { starts = a.old; counts = w.old }) (record { starts = b.old; counts = v.old }) }
     ensures { (result.first ≡ result.second) × (◌≡◌ {A = Lists} (record { starts = a.new; counts = w.new }) (record { starts = b.new; counts = v.new })) }
 {
-    let first = breakwarp_brute(k, p, t, a, w);
-    let second = breakwarp_brute(k, p, t, b, v);
-    Codes { first, second }
+    let first = E::call(k, p, t, a, w);
+    let second = E::call(k, p, t, b, v);
+    Twice { first, second }
 }
 
-fn kmp_twice(
-    k: u32,
-    p: &[u32],
-    t: &[u32],
-    a: &mut [u32],
-    w: &mut [u64],
-    b: &mut [u32],
-    v: &mut [u64],
-) -> Codes
-    requires { ◌≡◌ {A = Lists} (record { starts = a.old; counts = w.old }) (record { starts = b.old; counts = v.old }) }
-    ensures { (result.first ≡ result.second) × (◌≡◌ {A = Lists} (record { starts = a.new; counts = w.new }) (record { starts = b.new; counts = v.new })) }
-{
-    let first = breakwarp_kmp(k, p, t, a, w);
-    let second = breakwarp_kmp(k, p, t, b, v);
-    Codes { first, second }
-}
-
-fn bm_twice(
-    k: u32,
-    p: &[u32],
-    t: &[u32],
-    a: &mut [u32],
-    w: &mut [u64],
-    b: &mut [u32],
-    v: &mut [u64],
-) -> Codes
-    requires { ◌≡◌ {A = Lists} (record { starts = a.old; counts = w.old }) (record { starts = b.old; counts = v.old }) }
-    ensures { (result.first ≡ result.second) × (◌≡◌ {A = Lists} (record { starts = a.new; counts = w.new }) (record { starts = b.new; counts = v.new })) }
-{
-    let first = breakwarp_bm(k, p, t, a, w);
-    let second = breakwarp_bm(k, p, t, b, v);
-    Codes { first, second }
-}
-
-fn sunday_twice(
-    k: u32,
-    p: &[u32],
-    t: &[u32],
-    a: &mut [u32],
-    w: &mut [u64],
-    b: &mut [u32],
-    v: &mut [u64],
-) -> Codes
-    requires { ◌≡◌ {A = Lists} (record { starts = a.old; counts = w.old }) (record { starts = b.old; counts = v.old }) }
-    ensures { (result.first ≡ result.second) × (◌≡◌ {A = Lists} (record { starts = a.new; counts = w.new }) (record { starts = b.new; counts = v.new })) }
-{
-    let first = breakwarp_sunday(k, p, t, a, w);
-    let second = breakwarp_sunday(k, p, t, b, v);
-    Codes { first, second }
-}
-
-fn shiftand_twice(
-    k: u32,
-    p: &[u32],
-    t: &[u32],
-    a: &mut [u32],
-    w: &mut [u64],
-    b: &mut [u32],
-    v: &mut [u64],
-) -> Codes
-    requires { ◌≡◌ {A = Lists} (record { starts = a.old; counts = w.old }) (record { starts = b.old; counts = v.old }) }
-    ensures { (result.first ≡ result.second) × (◌≡◌ {A = Lists} (record { starts = a.new; counts = w.new }) (record { starts = b.new; counts = v.new })) }
-{
-    let first = breakwarp_shiftand(k, p, t, a, w);
-    let second = breakwarp_shiftand(k, p, t, b, v);
-    Codes { first, second }
-}
-
-fn hybrid_twice(
-    k: u32,
-    p: &[u32],
-    t: &[u32],
-    a: &mut [u32],
-    w: &mut [u64],
-    b: &mut [u32],
-    v: &mut [u64],
-) -> Codes
-    requires { ◌≡◌ {A = Lists} (record { starts = a.old; counts = w.old }) (record { starts = b.old; counts = v.old }) }
-    ensures { (result.first ≡ result.second) × (◌≡◌ {A = Lists} (record { starts = a.new; counts = w.new }) (record { starts = b.new; counts = v.new })) }
-{
-    let first = breakwarp_hybrid(k, p, t, a, w);
-    let second = breakwarp_hybrid(k, p, t, b, v);
-    Codes { first, second }
-}
-
-fn first_twice(k: u32, p: &[u32], t: &[u32], a: &mut [u64], b: &mut [u64]) -> Codes
+fn first_twice(k: u32, p: &[u32], t: &[u32], a: &mut [u64], b: &mut [u64]) -> Twice<i64>
     requires { a.old ≡ b.old }
     ensures { (result.first ≡ result.second) × (a.new ≡ b.new) }
 {
     let first = breakwarp_first(k, p, t, a);
     let second = breakwarp_first(k, p, t, b);
-    Codes { first, second }
+    Twice { first, second }
 }
 
-fn bound_twice(k: u32, p: &[u32], t: &[u32], a: &mut [u32], b: &mut [u32]) -> Codes
+fn bound_twice(k: u32, p: &[u32], t: &[u32], a: &mut [u32], b: &mut [u32]) -> Twice<i64>
     requires { a.old ≡ b.old }
     ensures { (result.first ≡ result.second) × (a.new ≡ b.new) }
 {
     let first = breakwarp_bound(k, p, t, a);
     let second = breakwarp_bound(k, p, t, b);
-    Codes { first, second }
+    Twice { first, second }
 }
 
+// Here and below each call is made by its own name: these are the calls for C, and what is told of each is its own contract.
 fn bound_choice_twice(
     k: u32,
     p: &[u32],
@@ -144,48 +106,55 @@ fn bound_choice_twice(
     start: usize,
     a: &mut [u32],
     b: &mut [u32],
-) -> Codes
+) -> Twice<i64>
     requires { a.old ≡ b.old }
     ensures { (result.first ≡ result.second) × (a.new ≡ b.new) }
 {
     let first = breakwarp_bound_choice(k, p, t, start, a);
     let second = breakwarp_bound_choice(k, p, t, start, b);
-    Codes { first, second }
+    Twice { first, second }
 }
 
-fn reasons_twice(k: u32, p: &[u32], t: &[u32], start: usize, a: &mut [u32], b: &mut [u32]) -> Codes
+fn reasons_twice(
+    k: u32,
+    p: &[u32],
+    t: &[u32],
+    start: usize,
+    a: &mut [u32],
+    b: &mut [u32],
+) -> Twice<i64>
     requires { a.old ≡ b.old }
     ensures { (result.first ≡ result.second) × (a.new ≡ b.new) }
 {
     let first = breakwarp_reasons(k, p, t, start, a);
     let second = breakwarp_reasons(k, p, t, start, b);
-    Codes { first, second }
+    Twice { first, second }
 }
 
-fn to_products_twice(k: u32, from: &[u32], a: &mut [u32], b: &mut [u32]) -> Codes
+fn to_products_twice(k: u32, from: &[u32], a: &mut [u32], b: &mut [u32]) -> Twice<i64>
     requires { a.old ≡ b.old }
     ensures { (result.first ≡ result.second) × (a.new ≡ b.new) }
 {
     let first = breakwarp_to_products(k, from, a);
     let second = breakwarp_to_products(k, from, b);
-    Codes { first, second }
+    Twice { first, second }
 }
 
-fn from_products_twice(k: u32, from: &[u32], a: &mut [u32], b: &mut [u32]) -> Codes
+fn from_products_twice(k: u32, from: &[u32], a: &mut [u32], b: &mut [u32]) -> Twice<i64>
     requires { a.old ≡ b.old }
     ensures { (result.first ≡ result.second) × (a.new ≡ b.new) }
 {
     let first = breakwarp_from_products(k, from, a);
     let second = breakwarp_from_products(k, from, b);
-    Codes { first, second }
+    Twice { first, second }
 }
 
-fn products_meet_twice(k: u32, a: u32, b: u32) -> Codes
+fn products_meet_twice(k: u32, a: u32, b: u32) -> Twice<i64>
     ensures { result.first ≡ result.second }
 {
     let first = breakwarp_products_meet(k, a, b);
     let second = breakwarp_products_meet(k, a, b);
-    Codes { first, second }
+    Twice { first, second }
 }
 
 fn read_sheet_twice(
@@ -198,13 +167,13 @@ fn read_sheet_twice(
     q: &mut [u32],
     u: &mut [u32],
     y: &mut [u64],
-) -> Codes
+) -> Twice<i64>
     requires { ◌≡◌ {A = Lent} (record { strings = record { alphabet = a.old; pattern = p.old; text = t.old }; sizes = z.old }) (record { strings = record { alphabet = b.old; pattern = q.old; text = u.old }; sizes = y.old }) }
     ensures { (result.first ≡ result.second) × (◌≡◌ {A = Lent} (record { strings = record { alphabet = a.new; pattern = p.new; text = t.new }; sizes = z.new }) (record { strings = record { alphabet = b.new; pattern = q.new; text = u.new }; sizes = y.new })) }
 {
     let first = breakwarp_read_sheet(s, a, p, t, z);
     let second = breakwarp_read_sheet(s, b, q, u, y);
-    Codes { first, second }
+    Twice { first, second }
 }
 
 fn write_sheet_twice(
@@ -214,20 +183,20 @@ fn write_sheet_twice(
     t: &[u32],
     a: &mut [u8],
     b: &mut [u8],
-) -> Codes
+) -> Twice<i64>
     requires { a.old ≡ b.old }
     ensures { (result.first ≡ result.second) × (a.new ≡ b.new) }
 {
     let first = breakwarp_write_sheet(k, alphabet, p, t, a);
     let second = breakwarp_write_sheet(k, alphabet, p, t, b);
-    Codes { first, second }
+    Twice { first, second }
 }
 
-fn report_twice(s: &[u8], a: &mut [u8], b: &mut [u8]) -> Codes
+fn report_twice(s: &[u8], a: &mut [u8], b: &mut [u8]) -> Twice<i64>
     requires { a.old ≡ b.old }
     ensures { (result.first ≡ result.second) × (a.new ≡ b.new) }
 {
     let first = breakwarp_report(s, a);
     let second = breakwarp_report(s, b);
-    Codes { first, second }
+    Twice { first, second }
 }

@@ -1,12 +1,12 @@
 -- The tests of choices mean what they say: whoever tries every choice finds one exactly if there is one. Assumes nothing.
 use mathlib.Core.Path.{◌≡◌, refl, sym, ap, ◌∙◌}
-use mathlib.Core.Bool.{Bool, true, false}
+use mathlib.Core.Bool.{Bool, true}
 use mathlib.Core.List.{List, [], ◌∷◌}
 use mathlib.Core.Logic.{◌⊎◌, inl, inr, ⊎_elim}
-use Prim.Native.Nat.{ℕ, zero, suc, ◌+◌, ◌-◌, ◌≤◌, ◌<◌}
+use Prim.Native.Nat.{ℕ, zero, suc, ◌+◌, ◌≤◌, ◌<◌}
 use native.Mathlib.Nat.{eq-or-lt_of_le, le_of_suc-le-suc, le_refl}
 use native.Mathlib.Omega.{arith}
-use borrow.Author.Tests.{eqb-true, eqb-false, eq-eqb, ltb-true, lt-ltb, le-ltb}
+use borrow.Author.Tests.{eqb-true, eqb-false, eq-eqb, ltb-true, lt-ltb}
 use lib.Dec.{eqb}
 use lib.ListN.{length, get_or}
 use Rattle.letters.specs.Letters.{member}
@@ -15,7 +15,7 @@ use Rattle.letters.proofs.DigitLaws.{below_power}
 use Rattle.letters.proofs.LetterLaws.{member_high}
 use Rattle.hits.specs.Meaning.{Listed}
 use Rattle.shifts.specs.Least.{least}
-use Rattle.shifts.proofs.LeastLaws.{least_at, least_low, Seeking, seek_end}
+use Rattle.shifts.proofs.LeastLaws.{least_at, least_low}
 use Rattle.choices.specs.Choices.{Chosen, right_pair, right_pairs, chosen, giving, some_below, some_choice, letters_at, some_chosen}
 use Rattle.choices.specs.Candidates.{low_member}
 
@@ -38,10 +38,6 @@ below_some b n e = let l = ltb-true _ _ e in (least b 0 n, l, least_at b 0 n (om
 
 pub some_below_lem : (b : ℕ → Bool) (n x : ℕ) → x < n → b x ≡ true → some_below b n ≡ true
 some_below_lem b n x l e = lt-ltb (least b 0 n) n (omega (arith, least_low b 0 n x (omega arith) e))
-
--- a loop that seeks such a number has come to the end
-pub seek_none : (b : ℕ → Bool) (n x : ℕ) → Seeking b n 0 x → n ≤ x → some_below b n ≡ false
-seek_none b n x q l = let o : n - 0 ≡ n = omega arith in let z : x ≡ least b 0 n = seek_end b q l ∙ ap (least b 0) o in le-ltb (least b 0 n) n (omega arith)
 
 -- what is found by trying passes the test
 found : (b : (ℕ → ℕ) → Bool) (cs : List ℕ) (f : ℕ → ℕ) → some_choice b cs f ≡ true → (g : ℕ → ℕ) × (b g ≡ true)

@@ -1,32 +1,22 @@
 -- Joining the sets of two pairs, and a pass of joins: what they keep, and that the sum of the sets falls by each that changes something. Assumes nothing.
 use mathlib.Core.Path.{◌≡◌, refl, sym, ap, ◌∙◌}
-use mathlib.Core.Bool.{Bool, true, false, ◌||◌}
-use mathlib.Core.List.{List, [], ◌∷◌}
+use mathlib.Core.Bool.{true, false, ◌||◌}
+use mathlib.Core.List.{List}
 use mathlib.Core.Logic.{◌⊎◌, inl, inr, ⊎_elim}
-use Prim.Native.Nat.{ℕ, zero, suc, ◌+◌, ◌≤◌, ◌<◌}
+use Prim.Native.Nat.{ℕ, zero, suc, ◌≤◌, ◌<◌}
 use native.Mathlib.Nat.{eq-or-lt_of_le, le_of_suc-le-suc, le_refl}
-use native.Mathlib.Numerals.{add-one}
 use native.Mathlib.Omega.{arith}
 use borrow.Author.Tests.{eqb-true, eqb-false, not-true, not-false}
 use lib.Bits.{and_le_l, and_le_r, and_self}
 use lib.Dec.{eqb}
 use lib.ListN.{length, get_or, set, length-set}
+use Rattle.std.specs.List.{sum}
+use Rattle.std.proofs.lemmas.List.Sums.{sum_by-set}
 use lib.Seq.{get_or-set_same, get_or-set_other, set-get_or, lt-length-set}
 use Rattle.letters.specs.Letters.{member, shared}
 use Rattle.letters.proofs.Truth.{bool_cases, both_ways, or_false_l, or_false_r}
 use Rattle.letters.proofs.LetterLaws.{shared_member, member_shared}
-use Rattle.choices.specs.Candidates.{Backward, common, joined, differs, passed, stirred}
-
--- the sum of the sets, as numbers
-unfoldable pub sum_of : List ℕ → ℕ
-sum_of [] = 0
-sum_of (x ∷ xs) = x + sum_of xs
-
-sum_set : (C : List ℕ) (h y : ℕ) → h < length C → sum_of (set C h y) + get_or C h 0 ≡ sum_of C + y
-unfolding sum_of
-sum_set [] h y l = absurd (omega arith)
-sum_set (x ∷ C) zero y l = omega arith
-sum_set (x ∷ C) (suc h) y l = let e = sum_set C h y (omega arith) in omega arith
+use Rattle.choices.specs.Candidates.{NeverAhead, common, joined, differs, passed, stirred}
 
 module _ (a j : ℕ) (C : List ℕ) where
   pub length_joined : length (joined a j C) ≡ length C
@@ -81,12 +71,12 @@ module _ (a j : ℕ) (C : List ℕ) where
         (λ y. let q = eqb-true _ _ y in inr (ap (λ (h : ℕ). get_or (set C a (common a j C)) h 0) q ∙ get_or-set_same C a (common a j C) 0 la, sym q))
         (λ n. inl (get_or-set_other C a j (common a j C) 0 (eqb-false _ _ n)))
 
-    pub joined_falls : differs a j C ≡ true → sum_of (joined a j C) < sum_of C
+    pub joined_falls : differs a j C ≡ true → sum (joined a j C) < sum C
     unfolding joined shared
     joined_falls e =
         let n = eqb-false _ _ (not-true _ e) in
-        let u = sum_set C a (common a j C) la in
-        let v = sum_set (set C a (common a j C)) j (common a j C) (lt-length-set C a (common a j C) lj) in
+        let u = sum_by-set (λ (x : ℕ). x) C a (common a j C) 0 la in
+        let v = sum_by-set (λ (x : ℕ). x) (set C a (common a j C)) j (common a j C) 0 (lt-length-set C a (common a j C) lj) in
         let x = and_le_l (get_or C a 0) (get_or C j 0) in
         let y = and_le_r (get_or C a 0) (get_or C j 0) in
         ⊎_elim
@@ -95,49 +85,42 @@ module _ (a j : ℕ) (C : List ℕ) where
         (λ w. absurd (n (ap (λ (h : ℕ). get_or C h 0) w.1)))
         second
 
-    pub joined_sum : sum_of (joined a j C) ≤ sum_of C
-    joined_sum = bool_cases (differs a j C) (λ y. omega (arith, joined_falls y)) (λ n. rw (joined_same n) (le_refl (sum_of C)))
+    pub joined_sum : sum (joined a j C) ≤ sum C
+    joined_sum = bool_cases (differs a j C) (λ y. omega (arith, joined_falls y)) (λ n. rw (joined_same n) (le_refl (sum C)))
 
-module _ (A B : List ℕ) (C : List ℕ) where
+module _ (A B C : List ℕ) where
   pub length_passed : (h : ℕ) → length (passed A B h C) ≡ length C
   unfolding passed
   length_passed zero = refl
   length_passed (suc h) =
       length_joined (get_or B h 0) h (joined (get_or A h 0) h (passed A B h C)) ∙ length_joined (get_or A h 0) h (passed A B h C) ∙ length_passed h
 
-  -- the joins of one pair more
-  pub pass_on : (h a b : ℕ) (own once twice : List ℕ) (changed first second : Bool) → own ≡ passed A B h C → changed ≡ stirred A B h C → a ≡ get_or A h 0 → b ≡ get_or B h 0
-      → (first ≡ (changed || differs a h own)) × (once ≡ joined a h own) → (second ≡ (first || differs b h once)) × (twice ≡ joined b h once)
-      → (second ≡ stirred A B (h + 1) C) × (twice ≡ passed A B (h + 1) C)
-  unfolding passed stirred
-  pass_on h a b own once twice changed first second eo ec ea eb one two = rw (add-one h, two.1, two.0, one.1, one.0, eo, ec, ea, eb) (refl, refl)
-
-  module _ (m : ℕ) (room : m ≤ length C) (back_a : Backward m A) (back-b : Backward m B) where
-    -- the two joins of pair h are within the sets
-    module _ (h : ℕ) (l : h < m) where
+  module _ (back_a : NeverAhead A) (back_b : NeverAhead B) where
+    -- pair h after the first of its two joins, which are within the sets
+    module _ (h : ℕ) (l : h < length C) where
       abbrev once : List ℕ
       once = joined (get_or A h 0) h (passed A B h C)
 
       in_a : get_or A h 0 < length (passed A B h C)
-      in_a = omega (arith, back_a h l, length_passed h)
+      in_a = omega (arith, back_a h, length_passed h)
 
       in_h : h < length (passed A B h C)
       in_h = omega (arith, length_passed h)
 
       in_b : get_or B h 0 < length once
-      in_b = omega (arith, back-b h l, length_passed h, length_joined (get_or A h 0) h (passed A B h C))
+      in_b = omega (arith, back_b h, length_passed h, length_joined (get_or A h 0) h (passed A B h C))
 
       in_once : h < length once
       in_once = omega (arith, length_passed h, length_joined (get_or A h 0) h (passed A B h C))
 
-    pub passed_sum : (h : ℕ) → h ≤ m → sum_of (passed A B h C) ≤ sum_of C
+    passed_sum : (h : ℕ) → h ≤ length C → sum (passed A B h C) ≤ sum C
     unfolding passed
     passed_sum zero l = le_refl _
     passed_sum (suc h) l =
         omega (arith, joined_sum (get_or B h 0) h (once h l) (in_b h l) (in_once h l), joined_sum (get_or A h 0) h (passed A B h C) (in_a h l) (in_h h l), passed_sum h (omega arith))
 
     -- a pass that changes something makes the sum fall
-    pub passed_falls : (h : ℕ) → h ≤ m → stirred A B h C ≡ true → sum_of (passed A B h C) < sum_of C
+    pub passed_falls : (h : ℕ) → h ≤ length C → stirred A B h C ≡ true → sum (passed A B h C) < sum C
     unfolding passed stirred
     passed_falls zero l e = absurd (both_ways false e refl)
     passed_falls (suc h) l e =
@@ -150,21 +133,21 @@ module _ (A B : List ℕ) (C : List ℕ) where
         (λ t. omega (arith, joined_falls (get_or A h 0) h (passed A B h C) (in_a h l) (in_h h l) t))
         (λ k. omega (arith, joined_falls (get_or B h 0) h (once h l) (in_b h l) (in_once h l) (rw (n, k) at e))))
 
-    -- one that changes nothing leaves each pair with the sets that it is tied to
-    pub passed_still : (h : ℕ) → h ≤ m → stirred A B h C ≡ false
-        → (passed A B h C ≡ C) × ((j : ℕ) → j < h → (get_or C (get_or A j 0) 0 ≡ get_or C j 0) × (get_or C (get_or B j 0) 0 ≡ get_or C j 0))
-    unfolding passed stirred
-    passed_still zero l e = (refl, λ j k. absurd (omega arith))
-    passed_still (suc h) l e =
-        let r = or_false_l (stirred A B h C || differs (get_or A h 0) h (passed A B h C)) _ e in
-        let db = or_false_r (stirred A B h C || differs (get_or A h 0) h (passed A B h C)) _ e in
-        let w = passed_still h (omega arith) (or_false_l (stirred A B h C) _ r) in
-        let da = or_false_r (stirred A B h C) _ r in
-        let one : once h l ≡ C = joined_same (get_or A h 0) h (passed A B h C) da ∙ w.0 in (
-          joined_same (get_or B h 0) h (once h l) db ∙ one,
-          λ j k.
-              ⊎_elim
-              (λ (q : j ≡ h). rw q (eqb-true _ _ (not-false _ (rw w.0 at da)), eqb-true _ _ (not-false _ (rw one at db))))
-              (λ (q : j < h). w.1 j q)
-              (eq-or-lt_of_le (le_of_suc-le-suc k)),
-        )
+  -- one that changes nothing leaves each pair with the sets that it is tied to
+  pub passed_still : (h : ℕ) → stirred A B h C ≡ false
+      → (passed A B h C ≡ C) × ((j : ℕ) → j < h → (get_or C (get_or A j 0) 0 ≡ get_or C j 0) × (get_or C (get_or B j 0) 0 ≡ get_or C j 0))
+  unfolding passed stirred
+  passed_still zero e = (refl, λ j k. absurd (omega arith))
+  passed_still (suc h) e =
+      let r = or_false_l (stirred A B h C || differs (get_or A h 0) h (passed A B h C)) _ e in
+      let db = or_false_r (stirred A B h C || differs (get_or A h 0) h (passed A B h C)) _ e in
+      let w = passed_still h (or_false_l (stirred A B h C) _ r) in
+      let da = or_false_r (stirred A B h C) _ r in
+      let one : joined (get_or A h 0) h (passed A B h C) ≡ C = joined_same (get_or A h 0) h (passed A B h C) da ∙ w.0 in (
+        joined_same (get_or B h 0) h (joined (get_or A h 0) h (passed A B h C)) db ∙ one,
+        λ j k.
+            ⊎_elim
+            (λ (q : j ≡ h). rw q (eqb-true _ _ (not-false _ (rw w.0 at da)), eqb-true _ _ (not-false _ (rw one at db))))
+            (λ (q : j < h). w.1 j q)
+            (eq-or-lt_of_le (le_of_suc-le-suc k)),
+      )

@@ -1,30 +1,32 @@
 -- Settled candidates decide: if a set is empty there is no choice, else their lowest members are the lowest choice; and pass after pass they settle. Assumes nothing.
 use mathlib.Core.Path.{◌≡◌, refl, sym, ap, ◌∙◌}
 use mathlib.Core.Bool.{Bool, true, false, not}
-use mathlib.Core.List.{List, map}
+use mathlib.Core.List.{List, ◌++◌, map}
 use mathlib.Core.Logic.{inl, ⊎_elim}
 use Prim.Native.Nat.{ℕ, ◌+◌, ◌^◌, ◌≤◌, ◌<◌}
-use native.Mathlib.Nat.{le_antisymm, le_refl}
+use native.Mathlib.Nat.{le_antisymm}
 use native.Mathlib.Omega.{arith}
 use borrow.Author.Tests.{eqb-true, eq-eqb}
 use lib.Count.{count_trailing_zeros}
 use lib.Dec.{eqb}
-use lib.ListN.{length, get_or, take}
+use lib.ListN.{length, get_or, take, length-append, get_or-append}
+use Rattle.std.specs.Prelude.{nat_eq}
+use Rattle.std.specs.List.{list_any}
+use Rattle.std.proofs.lemmas.List.Folds.{Any-from_list_any, list_any_at}
 use Rattle.letters.specs.Letters.{member, single}
 use Rattle.letters.proofs.Truth.{bool_cases, both_ways}
 use Rattle.letters.proofs.DigitLaws.{digit_zero, some_digit, below_power}
 use Rattle.letters.proofs.LetterLaws.{digit_member, no_member, single_one}
 use Rattle.letters.proofs.LowestLaws.{low}
-use Rattle.hits.specs.Counts.{tally}
 use Rattle.shifts.specs.Least.{least}
 use Rattle.shifts.proofs.LeastLaws.{least_is, least_low, least_at}
-use Rattle.choices.specs.Choices.{Chosen, some_below, bound_at, lowest_of, lowest_at}
-use Rattle.choices.specs.Candidates.{Candidates, stands_at, Ties, passed, stirred, Settled, low_member, Lowest}
-use Rattle.choices.proofs.ChoiceLaws.{low_member_lem, low_least, member_less, below_some, some_below_lem}
+use Rattle.choices.specs.Choices.{Chosen, bound_at, lowest_of, lowest_at}
+use Rattle.choices.specs.Candidates.{Candidates, stands_at, Tied, passed, stirred, Settled, low_member, Lowest}
+use Rattle.choices.proofs.ChoiceLaws.{low_member_lem, low_least, member_less}
 use Rattle.choices.proofs.LowestLaws.{map_each, lowest_least, lowest_given}
 use Rattle.choices.proofs.BoundLaws.{test_bound, bound_test}
-use Rattle.choices.proofs.JoinLaws.{sum_of, passed_still, passed_falls}
-use Rattle.choices.proofs.TieLaws.{stands_in, stands_above, stands_under, back_above, back_under, pass_cands, pass_settles}
+use Rattle.choices.proofs.JoinLaws.{passed_still}
+use Rattle.choices.proofs.TieLaws.{stands_in, stands_above, stands_under, pass_settles}
 
 -- a set that is not empty has its lowest member
 some_low : (c : ℕ) → (c ≡ 0 → ⊥) → member (low_member c) c ≡ true
@@ -106,47 +108,30 @@ pub lowest_written : (P T : List ℕ) (i : ℕ) (C : List ℕ) → Lowest P T i 
 unfolding lowest_at
 lowest_written P T i C w = map_each low_member (lowest_of P T i) P C w.room w.least
 
--- The narrowing of a start, pass after pass; `again` tells whether the last pass changed a set
-pub record Narrowing (P T : List ℕ) (i : ℕ) (A B C : List ℕ) (again : Bool) : Type 0 where
-  pub ties : Ties P T i A B
-  pub cands : Candidates P T i C
-  pub still : again ≡ false → Settled P T i C
+-- what lies behind the sets of the pairs says nothing
+pub lowest_front : (P T : List ℕ) (i : ℕ) (C R : List ℕ) → length C ≡ length P → Lowest P T i C → Lowest P T i (C ++ R)
+lowest_front P T i C R e w =
+    record {
+      room = omega (arith, e, length-append C R);
+      full = λ j l z. w.full j l (sym (get_or-append C R 0 j (omega (arith, e, l))) ∙ z);
+      least = λ j l. rw (get_or-append C R 0 j (omega (arith, e, l))) (w.least j l);
+    }
 
-module _ (P T : List ℕ) (i : ℕ) (A B : List ℕ) where
-  pub narrow_start : (C : List ℕ) → Ties P T i A B → Candidates P T i C → Narrowing P T i A B C true
-  narrow_start C t w = record { ties = t; cands = w; still = λ e. absurd (both_ways true refl e) }
-
-  module _ (C : List ℕ) (again : Bool) (w : Narrowing P T i A B C again) (D : List ℕ) (more : Bool) (m : more ≡ stirred A B (length P) C) (d : D ≡ passed A B (length P) C) where
-    -- a pass that changed nothing left the sets as they were
-    same : stirred A B (length P) C ≡ false → passed A B (length P) C ≡ C
-    same e = (passed_still A B C (length P) w.cands.room (back_above P T i A B w.ties) (back_under P T i A B w.ties) (length P) (le_refl (length P)) e).0
-
-    pub narrow_on : Narrowing P T i A B D more
-    narrow_on =
-        record {
-          ties = w.ties;
-          cands = rw d (pass_cands P T i A B w.ties C w.cands (length P) (le_refl (length P)));
-          still = λ e.
-              let q = sym m ∙ e in
-              rw (d, same q) (pass_settles P T i A B w.ties C w.cands q);
-        }
-
-    -- the sum of the sets falls, or it was the last pass
-    pub narrow_less : sum_of D + tally more < sum_of C + 1
-    narrow_less =
-        rw (d, m)
-        (bool_cases (stirred A B (length P) C)
-        (λ y. rw y (omega (arith, passed_falls A B C (length P) w.cands.room (back_above P T i A B w.ties) (back_under P T i A B w.ties) (length P) (le_refl (length P)) y)))
-        (λ n. rw (n, same n) (omega arith)))
+module _ (P T : List ℕ) (i : ℕ) where
+  -- a pass that changes nothing leaves the sets as they were, and settled
+  pub still_settled : (A B C D : List ℕ) → Tied P T i A B → Candidates P T i C → length C ≡ length P → stirred A B (length C) C ≡ false → D ≡ passed A B (length C) C → Settled P T i D
+  still_settled A B C D t w r e d =
+      rw (d, (passed_still A B C (length C) e).0) (pass_settles P T i A B t C w (rw (← r) e))
 
   -- what the sets that are left say
-  pub narrow_end : (C : List ℕ) → Narrowing P T i A B C false → i + length P ≤ length T → (r : Bool) → r ≡ not (some_below (λ j. eqb (get_or C j 0) 0) (length P))
-      → (r ≡ bound_at P T i) × (r ≡ true → Lowest P T i C)
-  narrow_end C w l r e =
-      bool_cases (some_below (λ j. eqb (get_or C j 0) 0) (length P))
-      (λ y. let q = below_some _ (length P) y in
-      let b = settled_none P T i C w.cands q.0 q.1 (eqb-true _ _ q.2) in
+  pub settled_end : (C : List ℕ) → Settled P T i C → length C ≡ length P → i + length P ≤ length T → (r : Bool) → r ≡ not (list_any (λ x. nat_eq x 0) C) → (r ≡ bound_at P T i) × (r ≡ true → Lowest P T i C)
+  settled_end C s m l r e =
+      bool_cases (list_any (λ x. nat_eq x 0) C)
+      (λ y. let q = some_at C y in
       let f : r ≡ false = e ∙ ap not y in
-      (f ∙ sym b, λ t. absurd (both_ways r t f)))
-      (λ n. let full : (j : ℕ) → j < length P → get_or C j 0 ≡ 0 → ⊥ = (λ j k z. both_ways _ (some_below_lem (λ j. eqb (get_or C j 0) 0) (length P) j k (eq-eqb _ _ z)) n) in
-      (e ∙ ap not n ∙ sym (settled_some P T i C (w.still refl) full l), λ t. settled_lowest P T i C (w.still refl) full))
+      (f ∙ sym (settled_none P T i C s.cands q.0 (omega (arith, q.1, m)) q.2), λ t. absurd (both_ways r t f)))
+      (λ n. let full : (j : ℕ) → j < length P → get_or C j 0 ≡ 0 → ⊥ = (λ j k z. both_ways _ (list_any_at (λ x. nat_eq x 0) C j 0 (omega (arith, m)) (eq-eqb _ _ z)) n) in
+      (e ∙ ap not n ∙ sym (settled_some P T i C s full l), λ t. settled_lowest P T i C s full))
+    where
+      some_at : (D : List ℕ) → list_any (λ x. nat_eq x 0) D ≡ true → (j : ℕ) × (j < length D) × (get_or D j 0 ≡ 0)
+      some_at D y = let q = Any-from_list_any (λ x. nat_eq x 0) D y in let z = eqb-true _ _ q.4 in (q.0, q.2, rw z at q.3)

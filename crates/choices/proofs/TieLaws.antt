@@ -1,22 +1,39 @@
 -- Ties: a pair is tied to the first at which its unsure letter stands, and every choice gives both the same. Assumes nothing.
 use mathlib.Core.Path.{◌≡◌, refl, sym, ap, ◌∙◌}
-use mathlib.Core.Bool.{true, false, or-true}
+use mathlib.Core.Bool.{Bool, true, false, ◌||◌, or-true}
 use mathlib.Core.List.{List}
 use mathlib.Core.Logic.{◌⊎◌, inl, inr, ⊎_elim}
-use Prim.Native.Nat.{ℕ, zero, suc, ◌+◌, ◌≤◌, ◌<◌}
+use Prim.Native.Nat.{ℕ, zero, suc, ◌+◌, ◌-◌, ◌≤◌, ◌<◌}
 use native.Mathlib.Nat.{zero-add}
 use native.Mathlib.Omega.{arith}
-use borrow.Author.Tests.{eqb-true, eq-eqb}
-use lib.Dec.{eqb}
-use lib.ListN.{length, get_or}
-use Rattle.letters.specs.Letters.{shared, single}
+use borrow.Author.Tests.{eqb-true, eq-eqb, ltb-true, ltb-false}
+use lib.Dec.{eqb, ltb}
+use lib.ListN.{length, get_or, replicate, take, drop}
+use Rattle.std.specs.List.{position, position_or_len, zip}
+use Rattle.std.specs.Option.{unwrap_or}
+use Rattle.std.proofs.lemmas.List.Sums.{position_or_len_is}
+use Rattle.std.proofs.lemmas.Slice.Zip.{get_or-zip, length-zip}
+use Rattle.std.proofs.lemmas.List.{length-take, length-drop, get_or-take, get_or-drop}
+use Rattle.std.proofs.lemmas.Grind.{common_steps}
+use Rattle.lent.proofs.FillLaws.{Filled}
+use Rattle.letters.specs.Letters.{single}
 use Rattle.letters.proofs.Truth.{bool_cases}
 use Rattle.letters.proofs.LetterLaws.{shared_member, member_shared}
 use Rattle.shifts.specs.Least.{least}
-use Rattle.shifts.proofs.LeastLaws.{least_le, least_has, least_first, least_is, least_low}
+use Rattle.shifts.proofs.LeastLaws.{least_le, least_has, least_first, least_at, least_is, least_low}
 use Rattle.choices.specs.Choices.{Chosen}
-use Rattle.choices.specs.Candidates.{Fresh, Candidates, CutBy, stands_at, tie_of, Ties, Backward, joined, passed, stirred, Settled}
+use Rattle.choices.specs.Candidates.{Candidates, CutBy, stands_at, tie_of, Tied, Backward, NeverAhead, joined, passed, stirred, Settled}
 use Rattle.choices.proofs.JoinLaws.{length_joined, joined_less, joined_kept, passed_still}
+
+-- a table of zeros whose front was filled with no number above its place
+pub fill_back : (n : ℕ) {g : ℕ → ℕ} {m : ℕ} {A : List ℕ} → Filled 0 g (replicate n 0) m A → ((h : ℕ) → g h ≤ h) → NeverAhead A
+fill_back n {g} {m} {A} w k j =
+    bool_cases (ltb j m)
+    (λ y. rw (w.done j (omega arith) (ltb-true _ _ y)) (k j))
+    (λ y. rw (w.left j (ltb-false _ _ y)) (zeros n j))
+  where
+    zeros : (n j : ℕ) → get_or (replicate n 0) j 0 ≤ j
+    zeros n j = grind (arith, common_steps)
 
 module _ (P T : List ℕ) (i : ℕ) where
   -- in P, or under it
@@ -36,6 +53,43 @@ module _ (P T : List ℕ) (i : ℕ) where
   pub tie_le : (c j : ℕ) → tie_of P T i c j ≤ j
   unfolding tie_of
   tie_le c j = bool_cases (single c) (λ y. rw y (omega arith)) (λ n. rw n (omega (arith, least_le (stands_at P T i c) 0 j)))
+
+  -- the first pair before j at which c stands, found in the two strings side by side
+  module _ (c j : ℕ) (lp : j ≤ length P) (lt : i + j ≤ length T) where
+    abbrev pairs : List (ℕ × ℕ)
+    pairs = zip (take j P) (take (i + j - i) (drop i T))
+
+    abbrev test : ℕ × ℕ → Bool
+    test x = eqb x.0 c || eqb x.1 c
+
+    length_pairs : length pairs ≡ j
+    length_pairs = omega (arith, length-zip (take j P) (take (i + j - i) (drop i T)), length-take j P, length-drop i T, length-take (i + j - i) (drop i T))
+
+    pair_at : (k : ℕ) → k < j → test (get_or pairs k (0, 0)) ≡ stands_at P T i c k
+    unfolding stands_at
+    pair_at k l =
+        rw (
+          get_or-zip (take j P) (take (i + j - i) (drop i T)) k (0, 0) (omega (arith, length-take j P)) (omega (arith, length-take (i + j - i) (drop i T), length-drop i T)),
+          get_or-take j P k 0 l,
+          get_or-take (i + j - i) (drop i T) k 0 (omega arith),
+          get_or-drop i T k 0,
+        )
+
+    pub earliest_is : unwrap_or (position test pairs) j ≡ least (stands_at P T i c) 0 j
+    earliest_is =
+        rw (first, length_pairs)
+        (bool_cases (ltb (least (stands_at P T i c) 0 j) j)
+        (λ y. rw y)
+        (λ y. rw y (omega (arith, ltb-false _ _ y, below))))
+      where
+        below : least (stands_at P T i c) 0 j ≤ j
+        below = omega (arith, least_le (stands_at P T i c) 0 j)
+
+        first : position_or_len test pairs ≡ least (stands_at P T i c) 0 j
+        first =
+            position_or_len_is test pairs (least (stands_at P T i c) 0 j) (0, 0) (omega (arith, length_pairs, below))
+            (λ k u. pair_at k (omega (arith, below)) ∙ least_first (stands_at P T i c) 0 j k (omega arith) u)
+            (λ u. pair_at (least (stands_at P T i c) 0 j) (omega (arith, length_pairs)) ∙ least_at (stands_at P T i c) 0 j (omega (arith, length_pairs)))
 
   -- where c stands at j, it stands at the pair that j is tied to
   first_stands : (c j : ℕ) → stands_at P T i c j ≡ true → stands_at P T i c (least (stands_at P T i c) 0 j) ≡ true
@@ -65,17 +119,14 @@ module _ (P T : List ℕ) (i : ℕ) where
         ∙ sym (pair_value c j l e)))
 
   -- the letters of P, cut by the text under them, are candidates
-  pub fresh_cut : (C D : List ℕ) → Fresh P C → CutBy T i (length P) C D → Candidates P T i D
-  fresh_cut C D w e =
+  pub cut_cands : (D : List ℕ) → CutBy T i P D → Candidates P T i D
+  cut_cands D e =
       record {
-        room = omega (arith, w.room, e.room);
-        above = λ j b l m. (shared_member (get_or P j 0) (get_or T (i + j) 0) b (rw (both j l) at m)).0;
-        under = λ j b l m. (shared_member (get_or P j 0) (get_or T (i + j) 0) b (rw (both j l) at m)).1;
-        kept = λ f c j l. rw (both j l) (member_shared (get_or P j 0) (get_or T (i + j) 0) (f (get_or P j 0)) (c.above j l) (rw (c.agree j l) (c.under j l)));
+        room = omega (arith, e.room);
+        above = λ j b l m. (shared_member (get_or P j 0) (get_or T (i + j) 0) b (rw (e.less j l) at m)).0;
+        under = λ j b l m. (shared_member (get_or P j 0) (get_or T (i + j) 0) b (rw (e.less j l) at m)).1;
+        kept = λ f c j l. rw (e.less j l) (member_shared (get_or P j 0) (get_or T (i + j) 0) (f (get_or P j 0)) (c.above j l) (rw (c.agree j l) (c.under j l)));
       }
-    where
-      both : (j : ℕ) → j < length P → get_or D j 0 ≡ shared (get_or P j 0) (get_or T (i + j) 0)
-      both j l = e.less j l ∙ ap (λ (x : ℕ). shared x (get_or T (i + j) 0)) (w.same j l)
 
   -- joining two pairs that every choice gives the same loses no choice
   pub join_cands : (a j : ℕ) (C : List ℕ) → a < length P → j < length P → ((f : ℕ → ℕ) → Chosen P T i f → f (get_or P a 0) ≡ f (get_or P j 0)) → Candidates P T i C → Candidates P T i (joined a j C)
@@ -89,7 +140,7 @@ module _ (P T : List ℕ) (i : ℕ) where
         kept = λ f c h l. joined_kept a j C ra rj (λ h. f (get_or P h 0)) (same f c) (w.kept f c a la) (w.kept f c j lj) h (w.kept f c h l);
       }
 
-  module _ (A B : List ℕ) (t : Ties P T i A B) where
+  module _ (A B : List ℕ) (t : Tied P T i A B) where
     pub back_above : Backward (length P) A
     back_above j l = omega (arith, t.above j l, tie_le (get_or P j 0) j)
 
@@ -115,7 +166,7 @@ module _ (P T : List ℕ) (i : ℕ) where
         -- each has the set of the first pair at which its letter stands
         first : (c j : ℕ) → single c ≡ false → j < length P → stands_at P T i c j ≡ true → get_or C j 0 ≡ get_or C (least (stands_at P T i c) 0 j) 0
         first c j n l x =
-            let s = (passed_still A B C (length P) w.room back_above back_under (length P) (omega arith) e).1 j l in
+            let s = (passed_still A B C (length P) e).1 j l in
             ⊎_elim
             (λ (q : get_or P j 0 ≡ c). sym s.0 ∙ ap (λ (z : ℕ). get_or C z 0) (t.above j l ∙ at (get_or P j 0) q))
             (λ (q : get_or T (i + j) 0 ≡ c). sym s.1 ∙ ap (λ (z : ℕ). get_or C z 0) (t.under j l ∙ at (get_or T (i + j) 0) q))

@@ -1,31 +1,55 @@
 // Ties: which pairs must be given the same base letter, because an unsure letter stands at both, in the pattern or under it.
-ghost use Rattle.std.specs.Prelude.{◌≡◌, ◌+◌, ◌^◌, ◌≤◌, ◌<◌, length};
+ghost use Rattle.std.specs.Prelude.{◌≡◌, ◌+◌, ◌^◌, ◌≤◌, ◌<◌, ◌==◌, ◌||◌, length, position};
+ghost use Rattle.std.specs.List.{zip};
 ghost use Rattle.letters.specs.Sizes.{SizedPattern};
-ghost use Rattle.shifts.specs.Least.{least};
-ghost use Rattle.choices.specs.Candidates.{stands_at, tie_of, Ties};
+ghost use Rattle.choices.specs.Candidates.{tie_of, Tied, NeverAhead, passed, stirred};
 
+use crate::joins::join;
 use letters::letter::lone;
 use letters::strings::Pattern;
 
-// The first pair before j at which c stands, or j.
-fn earliest(p: &[u32], t: &[u32], i: usize, c: u32, j: usize) -> usize
-    requires { (j ≤ length p.now) × (i + j ≤ length t.now) }
-    ensures { result ≡ least (stands_at p.now t.now i c) 0 j }
-{
-    let mut h = 0;
-    while h < j {
-        if p[h] == c {
-            return h;
+// The two pairs that each pair is tied to, by the pattern's letter and by the one under it: itself, or one before it.
+// Two tables and no table of twos: the definitions, and the theorems on them, speak of a list for each.
+#[derive(Drop)]
+pub struct Ties {
+    pub above: [u32; Pattern::MAX_M],
+    pub under: [u32; Pattern::MAX_M],
+    ghost above_back: { NeverAhead above },
+    ghost under_back: { NeverAhead under },
+}
+
+impl Ties {
+    // The ties of every pair.
+    pub fn of(p: &[u32], t: &[u32], i: usize) -> Self
+        requires { SizedPattern Pattern.MAX_M p.now × (i + length p.now ≤ length t.now) }
+        ensures { Tied p.now t.now i result.above result.under }
+    {
+        let mut above = [0; Pattern::MAX_M];
+        let mut under = [0; Pattern::MAX_M];
+        for j in 0..p.len() {
+            above[j] = tie(p, t, i, p[j], j);
+            under[j] = tie(p, t, i, t[i + j], j);
         }
-        if t[i + h] == c {
-            return h;
-        }
-        h += 1;
+        Ties { above, under }
     }
-    h
+
+    // Joins each pair with the two that it is tied to; whether this changed a set.
+    #[tactic(auto, unfolding(crate::specs::Candidates::passed, crate::specs::Candidates::stirred))]
+    pub fn pass(&self, own: &mut [u32]) -> bool
+        requires { length own.old ≤ Pattern.MAX_M }
+        ensures { (result ≡ stirred self.now.above self.now.under (length own.old) own.old) × (own.new ≡ passed self.now.above self.now.under (length own.old) own.old) }
+    {
+        let mut changed = false;
+        for j in 0..own.len() {
+            changed |= join(own, self.above[j] as usize, j);
+            changed |= join(own, self.under[j] as usize, j);
+        }
+        changed
+    }
 }
 
 // The pair that pair j is tied to by its letter c. A single letter leaves no choice and ties nothing, so it is not looked for.
+#[tactic(auto, unfolding(crate::specs::Candidates::tie_of))]
 fn tie(p: &[u32], t: &[u32], i: usize, c: u32, j: usize) -> u32
     requires { (j ≤ length p.now) × (i + j ≤ length t.now) × (j < 2 ^ 32) }
     ensures { result ≡ tie_of p.now t.now i c j }
@@ -33,24 +57,15 @@ fn tie(p: &[u32], t: &[u32], i: usize, c: u32, j: usize) -> u32
     if lone(c) {
         return j as u32;
     }
-    earliest(p, t, i, c, j) as u32
+    earliest(&p[..j], &t[i..i + j], c).unwrap_or(j) as u32
 }
 
-// The ties of every pair: by the pattern's letter, and by the one under it.
-pub fn tie_all(
-    p: &[u32],
-    t: &[u32],
-    i: usize,
-    above: &mut [u32; Pattern::MAX_M],
-    under: &mut [u32; Pattern::MAX_M],
-)
-    requires { SizedPattern Pattern.MAX_M p.now × (i + length p.now ≤ length t.now) × (length p.now ≤ length above.old) × (length p.now ≤ length under.old) }
-    ensures { Ties p.now t.now i above.new under.new }
+// The first of these pairs at which c stands.
+fn earliest(above: &[u32], under: &[u32], c: u32) -> Option<usize>
+    ensures { result ≡ position (λ x. (x.0 == c) || (x.1 == c)) (zip above.now under.now) }
 {
-    let mut j = 0;
-    while j < p.len() {
-        above[j] = tie(p, t, i, p[j], j);
-        under[j] = tie(p, t, i, t[i + j], j);
-        j += 1;
-    }
+    above
+        .iter()
+        .zip(under.iter())
+        .position(|(a, b)| *a == c || *b == c)
 }

@@ -11,10 +11,10 @@ use Rattle.lent.specs.Over.{over}
 use Rattle.hits.specs.Hits.{hits}
 use Rattle.hits.specs.Turns.{Run}
 use Rattle.hits.proofs.HitLaws.{length_hits}
-use Rattle.inputs.specs.declared.refusal.Check.{Check}
-use Rattle.inputs.specs.declared.refusal.Check.TheVariants.{Passed, Refused}
-use Rattle.inputs.specs.declared.refusal.Answer.{Answer}
-use Rattle.inputs.specs.Refusals.{verdict, refuse, with_room}
+use Rattle.std.specs.Prelude.{Result, Ok, Err}
+use Rattle.hits.specs.declared.work.Work.{Work}
+use Rattle.inputs.specs.declared.refusal.Refusal.{Refusal}
+use Rattle.inputs.specs.Refusals.{Check, verdict, refuse, with_room}
 use Rattle.inputs.specs.Answers.{answer_of, list_of, Searched}
 use Rattle.inputs.proofs.CheckLaws.{sized, room_passed}
 use Rattle.codes.specs.Codes.{code_of}
@@ -40,25 +40,25 @@ module _ (rule : List ℕ → List ℕ → Run) (K M N k : ℕ) (P T d w : List 
   called_short l r e = go (verdict K M N k P T) e
     where
       go : (c : Check) → r ≡ short_of c → Told (with_room 3 (length w) c) r d w
-      go (Refused q) e = record { answers = e; leaves = refl }
-      go Passed e = rw (lt-ltb (length w) 3 l) (record { answers = e; leaves = refl })
+      go (Err q) e = record { answers = e; leaves = refl }
+      go (Ok tt) e = rw (lt-ltb (length w) 3 l) (record { answers = e; leaves = refl })
 
   -- the search was made
-  pub called_full : 2 < length w → (a : Answer) (starts counts : List ℕ) (r : ℤ) → Searched rule K M N k P T d a starts → r ≡ answered_code a → counts ≡ answered_counts a w
+  pub called_full : 2 < length w → (a : Result Work Refusal) (starts counts : List ℕ) (r : ℤ) → Searched rule K M N k P T d a starts → r ≡ answered_code a → counts ≡ answered_counts a w
       → Called rule K M N k P T d w r starts counts
   called_full l a starts counts r p er ec =
       rw (room_passed 3 (length w) (verdict K M N k P T) (omega arith))
-      (go (verdict K M N k P T) (er ∙ ap answered_code p.answers) p.leaves (ec ∙ ap (λ (x : Answer). answered_counts x w) p.answers))
+      (go (verdict K M N k P T) (er ∙ ap answered_code p.answers) p.leaves (ec ∙ ap (λ (x : Result Work Refusal). answered_counts x w) p.answers))
     where
       go : (c : Check) → r ≡ answered_code (answer_of c (hits P T) (rule P T)) → starts ≡ list_of c (hits P T) d → counts ≡ answered_counts (answer_of c (hits P T) (rule P T)) w
           → Told c r starts counts
-      go (Refused q) e f g = record { answers = e; leaves = rw (f, g) }
-      go Passed e f g = record { answers = e; leaves = rw (f, g) }
+      go (Err q) e f g = record { answers = e; leaves = rw (f, g) }
+      go (Ok tt) e f g = record { answers = e; leaves = rw (f, g) }
 
 -- a total is small
-pub called_total : (rule : List ℕ → List ℕ → Run) (K M N k : ℕ) (P T d : List ℕ) (a : Answer) (starts : List ℕ) → Searched rule K M N k P T d a starts → total_of a ≤ N + 1
+pub called_total : (rule : List ℕ → List ℕ → Run) (K M N k : ℕ) (P T d : List ℕ) (a : Result Work Refusal) (starts : List ℕ) → Searched rule K M N k P T d a starts → total_of a ≤ N + 1
 called_total rule K M N k P T d a starts p = rw p.answers (go (verdict K M N k P T) (λ e. (sized K M N k P T e).small))
   where
-    go : (c : Check) → (c ≡ Passed → length T ≤ N) → total_of (answer_of c (hits P T) (rule P T)) ≤ N + 1
-    go (Refused q) f = omega arith
-    go Passed f = omega (arith, f refl, length_hits P T)
+    go : (c : Check) → (c ≡ Ok tt → length T ≤ N) → total_of (answer_of c (hits P T) (rule P T)) ≤ N + 1
+    go (Err q) f = omega arith
+    go (Ok tt) f = omega (arith, f refl, length_hits P T)

@@ -5,17 +5,16 @@
 --   Called             the promise of a search from C
 --   short_of c          what is answered where too few counts are lent, and the checks say c
 --   total_of, answered_code, answered_counts   what C is told of a search's answer
-use Rattle.std.specs.Prelude.{ℕ, List, [], ◌∷◌, ℤ, pos, length}
+use Rattle.std.specs.Prelude.{ℕ, List, [], ◌∷◌, ℤ, pos, length, Result, Ok, Err}
 use Rattle.promise.specs.Promised.{Promised}
 use Rattle.lent.specs.Over.{over}
 use Rattle.hits.specs.Hits.{hits}
 use Rattle.hits.specs.Turns.{Run}
-use Rattle.inputs.specs.Refusals.{verdict, both, with_room}
+use Rattle.inputs.specs.Refusals.{Check, verdict, both, with_room}
 use Rattle.inputs.specs.Answers.{list_of}
-use Rattle.inputs.specs.declared.refusal.Check.{Check}
-use Rattle.inputs.specs.declared.refusal.Check.TheVariants.{Refused}
-use Rattle.inputs.specs.declared.refusal.Answer.{Answer}
-use Rattle.inputs.specs.declared.refusal.Answer.TheVariants.{Found, Refused as AnswerRefused}
+use Rattle.hits.specs.declared.work.Work.{Work}
+use Rattle.inputs.specs.declared.refusal.Kind.TheVariants.{Room}
+use Rattle.inputs.specs.declared.refusal.Refusal.{Refusal}
 use Rattle.codes.specs.Codes.{refused_code, code_of}
 
 abbrev pub counts_of : Run → List ℕ
@@ -37,16 +36,16 @@ Called rule K M N k P T d w r starts counts =
     (record { starts = starts; counts = counts })
 
 abbrev pub short_of : Check → ℤ
-short_of c = code_of (both c (Refused (record { number = 8; place = 0 }))) 0
+short_of c = code_of (both c (Err (record { kind = Room; place = 0 }))) 0
 
-abbrev pub total_of : Answer → ℕ
-total_of (AnswerRefused r) = 0
-total_of (Found w) = w.total
+abbrev pub total_of : Result Work Refusal → ℕ
+total_of (Err r) = 0
+total_of (Ok w) = w.total
 
-abbrev pub answered_code : Answer → ℤ
-answered_code (AnswerRefused r) = refused_code r
-answered_code (Found w) = pos w.total
+abbrev pub answered_code : Result Work Refusal → ℤ
+answered_code (Err r) = refused_code r
+answered_code (Ok w) = pos w.total
 
-abbrev pub answered_counts : Answer → List ℕ → List ℕ
-answered_counts (AnswerRefused r) d = d
-answered_counts (Found w) d = over (w.scan ∷ w.shift ∷ w.steps ∷ []) d
+abbrev pub answered_counts : Result Work Refusal → List ℕ → List ℕ
+answered_counts (Err r) d = d
+answered_counts (Ok w) d = over (w.scan ∷ w.shift ∷ w.steps ∷ []) d

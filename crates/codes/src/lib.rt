@@ -2,26 +2,26 @@
 #![tactic(auto)]
 
 pub mod search;
+pub mod twice;
 
 ghost use Rattle.std.specs.Prelude.{◌≡◌, min, ◌^◌, ◌<◌, pos};
 ghost use Rattle.codes.specs.Codes.{refused_code, number_code, wrote_of, written_code, written_number};
 
-use inputs::refusal::{Refusal, Written};
-use letters::width::index;
+use inputs::refusal::Refusal;
 
 // A place as C is told it: one above 2^48 is told as 2^48, so that number and place fit one number.
 pub fn told_place(place: usize) -> usize
     ensures { result ≡ min place (2 ^ 48) }
 {
     let farthest: usize = 1 << 48;
-    if place < farthest { place } else { farthest }
+    place.min(farthest)
 }
 
 // Minus the refusal's number and 256 times its place.
 pub fn refusal_code(r: Refusal) -> i64
     ensures { result ≡ refused_code r }
 {
-    let both = index(r.number) + 256 * told_place(r.place);
+    let both = u32::from(r.kind) as usize + 256 * told_place(r.place);
     0 - (both as i64)
 }
 
@@ -29,7 +29,7 @@ pub fn refusal_code(r: Refusal) -> i64
 pub fn number_code(r: Refusal) -> i64
     ensures { result ≡ number_code r }
 {
-    0 - (r.number as i64)
+    0 - (u32::from(r.kind) as i64)
 }
 
 // A length or a total.
@@ -41,23 +41,23 @@ pub fn length_code(n: usize) -> i64
 }
 
 // What a call that writes answered.
-pub fn written_code(w: Written) -> i64
+pub fn written_code(w: Result<usize, Refusal>) -> i64
     requires { wrote_of w < 2 ^ 63 }
     ensures { result ≡ written_code w }
 {
     match w {
-        Written::Refused(r) => refusal_code(r),
-        Written::Wrote(n) => length_code(n),
+        Err(r) => refusal_code(r),
+        Ok(n) => length_code(n),
     }
 }
 
-// The same without a place.
-pub fn written_number(w: Written) -> i64
+// The same without a place. Two functions of four lines: a code handed in as a closure would ask for its contract at every call.
+pub fn written_number(w: Result<usize, Refusal>) -> i64
     requires { wrote_of w < 2 ^ 63 }
     ensures { result ≡ written_number w }
 {
     match w {
-        Written::Refused(r) => number_code(r),
-        Written::Wrote(n) => length_code(n),
+        Err(r) => number_code(r),
+        Ok(n) => length_code(n),
     }
 }

@@ -1,11 +1,13 @@
-// What C is told of a search, by any engine.
+// A search called from C, by any engine.
 ghost use Rattle.std.specs.Prelude.{◌≡◌, ◌^◌, ◌<◌, length};
 ghost use Rattle.inputs.specs.Refusals.{verdict};
-ghost use Rattle.codes.specs.Called.{short_of, total_of, answered_code, answered_counts};
+ghost use Rattle.codes.specs.Called.{short_of, total_of, answered_code, answered_counts, Called};
 
 use crate::{length_code, refusal_code};
+use hits::work::Work;
 use inputs::checks::checked;
-use inputs::refusal::{Answer, Check, Refusal};
+use inputs::refusal::{Kind, Refusal};
+use inputs::rule::{Rule, search};
 use letters::letter::Letter;
 use letters::strings::{Pattern, Text};
 
@@ -14,26 +16,34 @@ pub fn too_few(k: u32, p: &[u32], t: &[u32]) -> i64
     ensures { result ≡ short_of (verdict Letter.MAX_K Pattern.MAX_M Text.MAX_N k p.now t.now) }
 {
     match checked(k, p, t) {
-        Check::Refused(r) => refusal_code(r),
-        Check::Passed => refusal_code(Refusal {
-            number: 8,
-            place: 0,
-        }),
+        Err(r) => refusal_code(r),
+        Ok(()) => refusal_code(Kind::Room.at(0)),
     }
 }
 
 // The answer's number; its counts go into lent memory.
-pub fn told(a: Answer, work: &mut [u64]) -> i64
-    requires { (total_of a < 2 ^ 63) × (2 < length work.old) }
-    ensures { (result ≡ answered_code a) × (work.new ≡ answered_counts a work.old) }
+pub fn told(answer: Result<Work, Refusal>, work: &mut [u64]) -> i64
+    requires { (total_of answer < 2 ^ 63) × (2 < length work.old) }
+    ensures { (result ≡ answered_code answer) × (work.new ≡ answered_counts answer work.old) }
 {
-    match a {
-        Answer::Refused(r) => refusal_code(r),
-        Answer::Found(w) => {
+    match answer {
+        Err(r) => refusal_code(r),
+        Ok(w) => {
             work[0] = w.scan;
             work[1] = w.shift;
             work[2] = w.steps;
             length_code(w.total)
         }
     }
+}
+
+// The total or minus the refusal, with the starts and the three counts in lent memory. Where fewer than three counts are lent nothing is searched:
+// the checks alone say what is refused.
+pub fn called<R: Rule>(k: u32, p: &[u32], t: &[u32], hits: &mut [u32], work: &mut [u64]) -> i64
+    ensures { Called R.turns Letter.MAX_K Pattern.MAX_M Text.MAX_N k p.now t.now hits.old work.old result hits.new work.new }
+{
+    if work.len() < 3 {
+        return too_few(k, p, t);
+    }
+    told(search::<R>(k, p, t, hits), work)
 }

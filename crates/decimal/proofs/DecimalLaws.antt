@@ -5,32 +5,43 @@ use mathlib.Core.List.{List, [], ◌∷◌, ◌++◌, append-nil}
 use Prim.Native.Nat.{ℕ, zero, suc, ◌+◌, ◌-◌, ◌*◌, ◌/◌, ◌%◌, ◌^◌, ◌≤◌, ◌<◌}
 use native.Mathlib.Nat.{pow-suc}
 use native.Mathlib.Omega.{arith}
-use borrow.Author.Tests.{lt-ltb, le-ltb, le-leb, ltb-true, ltb-false, eqb-true, eqb-false}
+use borrow.Author.Tests.{lt-ltb, le-ltb, ltb-true, ltb-false, eqb-true, eqb-false}
 use lib.Dec.{eqb, ltb}
 use lib.ListN.{length, get_or, drop, length-append}
 use lib.Seq.{append_snoc}
 use Rattle.letters.proofs.Truth.{bool_cases}
-use Rattle.decimal.specs.Decimal.{is_digit, front_digits, value, decimal_to, decimal, ended}
-use Rattle.decimal.proofs.FrontLaws.{digit_range, value_end}
+use Rattle.std.specs.Char.{is_ascii_digit}
+use Rattle.std.proofs.lemmas.Bool.Decides.{nat_tests}
+use Rattle.std.proofs.lemmas.List.{take-append-drop, get_or-take}
+use Rattle.std.proofs.lemmas.List.Folds.{length-prefix_len}
+use Rattle.std.proofs.lemmas.List.Sums.{take_while-cons}
+use Rattle.decimal.specs.Decimal.{front_digits, value, decimal_to, decimal, ended}
 
 -- bytes that are digits
 abbrev pub Digs : List ℕ → Type 0
 Digs [] = Unit {0}
-Digs (b ∷ s) = (is_digit b ≡ true) × Digs s
+Digs (b ∷ s) = (is_ascii_digit b ≡ true) × Digs s
 
-digs_snoc : (xs : List ℕ) (b : ℕ) → Digs xs → is_digit b ≡ true → Digs (xs ++ (b ∷ []))
+digs_snoc : (xs : List ℕ) (b : ℕ) → Digs xs → is_ascii_digit b ≡ true → Digs (xs ++ (b ∷ []))
 digs_snoc [] b d e = (e, tt)
 digs_snoc (x ∷ xs) b d e = (d.0, digs_snoc xs b d.1 e)
 
-snoc_digs : (xs : List ℕ) (b : ℕ) → Digs (xs ++ (b ∷ [])) → Digs xs × (is_digit b ≡ true)
+snoc_digs : (xs : List ℕ) (b : ℕ) → Digs (xs ++ (b ∷ [])) → Digs xs × (is_ascii_digit b ≡ true)
 snoc_digs [] b d = (tt, d.0)
 snoc_digs (x ∷ xs) b d = let r = snoc_digs xs b d.1 in ((d.0, r.0), r.1)
 
-digit_of : (n : ℕ) → n < 10 → is_digit (48 + n) ≡ true
-unfolding is_digit
-digit_of n h = rw (le-leb 48 (48 + n) (omega arith), le-leb (48 + n) 57 (omega arith))
+pub digit_range : (b : ℕ) → is_ascii_digit b ≡ true → (48 ≤ b) × (b ≤ 57)
+digit_range b e = grind (arith, nat_tests)
 
-value_snoc : (v : ℕ) (xs : List ℕ) (b : ℕ) → value v (xs ++ (b ∷ [])) ≡ value v xs * 10 + (b - 48)
+pub value_end : (v : ℕ) (s : List ℕ) → length s ≡ 0 → value v s ≡ v
+unfolding value
+value_end v [] e = refl
+value_end v (b ∷ s) e = absurd (omega arith)
+
+digit_of : (n : ℕ) → n < 10 → is_ascii_digit (48 + n) ≡ true
+digit_of n h = grind (arith, nat_tests)
+
+pub value_snoc : (v : ℕ) (xs : List ℕ) (b : ℕ) → value v (xs ++ (b ∷ [])) ≡ value v xs * 10 + (b - 48)
 unfolding value
 value_snoc v [] b = refl
 value_snoc v (x ∷ xs) b = value_snoc (v * 10 + (x - 48)) xs b
@@ -94,9 +105,8 @@ dec_length (suc f) (suc g) n h p l =
 
 -- digits in front of an LF are all that is in front of it
 pub digits_line : (ds r : List ℕ) → Digs ds → front_digits (ds ++ (10 ∷ r)) ≡ ds
-unfolding front_digits is_digit
 digits_line [] r d = refl
-digits_line (b ∷ ds) r d = rw d.0 (ap (λ (xs : List ℕ). b ∷ xs) (digits_line ds r d.1))
+digits_line (b ∷ ds) r d = take_while-cons is_ascii_digit b (ds ++ (10 ∷ r)) ∙ rw d.0 (ap (λ (xs : List ℕ). b ∷ xs) (digits_line ds r d.1))
 
 -- what holds of no byte, and of one byte more at the end, holds of all bytes
 pub snoc_ind : (P : List ℕ → Type 0) → P [] → ((xs : List ℕ) (b : ℕ) → P xs → P (xs ++ (b ∷ []))) → (l : List ℕ) → P l
@@ -170,19 +180,14 @@ pub dec_back : (ds : List ℕ) → Back ds
 dec_back ds = snoc_ind Back (λ f l d p ld. absurd (omega arith)) back_snoc ds
 
 pub digits_digs : (s : List ℕ) → Digs (front_digits s)
-unfolding front_digits
 digits_digs [] = tt
-digits_digs (b ∷ s) = bool_cases (is_digit b) (λ e. rw e (e, digits_digs s)) (λ e. rw e tt)
+digits_digs (b ∷ s) = subst Digs (sym (take_while-cons is_ascii_digit b s)) (bool_cases (is_ascii_digit b) (λ e. rw e (e, digits_digs s)) (λ e. rw e tt))
 
 pub digits_front : (s : List ℕ) → s ≡ front_digits s ++ drop (length (front_digits s)) s
-unfolding front_digits
-digits_front [] = refl
-digits_front (b ∷ s) = bool_cases (is_digit b) (λ e. rw e (ap (λ (xs : List ℕ). b ∷ xs) (digits_front s))) (λ e. rw e refl)
+digits_front s = sym (rw (length-prefix_len is_ascii_digit s) (take-append-drop _ s))
 
 pub first_of : (s : List ℕ) → 0 < length (front_digits s) → get_or (front_digits s) 0 0 ≡ get_or s 0 0
-unfolding front_digits
-first_of [] h = absurd (omega arith)
-first_of (b ∷ s) h = bool_cases (is_digit b) (λ e. rw e) (λ e. let z : 0 < 0 = rw e at h in absurd (omega arith))
+first_of s h = get_or-take _ s 0 0 (rw (length-prefix_len is_ascii_digit s) at h)
 
 -- the fuel does not matter, if it is enough
 dec_enough : (f g n : ℕ) → n < 10 ^ f → n < 10 ^ g → 0 < f → 0 < g → decimal_to f n ≡ decimal_to g n

@@ -1,19 +1,15 @@
 -- Numbers in decimal digits.
 --
---   is_digit b      the byte b is a decimal digit
 --   front_digits s  the digits in front of s
 --   value v ds     the number that v, and then the digits ds, write
 --   decimal_to f n  the digits of n, f at most
 --   decimal n      the digits of n, with no leading 0 except for 0 itself
 --   ended n b      the digits of n, and the byte b after them
-use Rattle.std.specs.Prelude.{ℕ, zero, suc, ◌+◌, ◌-◌, ◌*◌, ◌/◌, ◌%◌, Bool, cond, ◌&&◌, List, [], ◌∷◌, ◌++◌, leb, ltb}
+use Rattle.std.specs.Prelude.{ℕ, zero, suc, ◌+◌, ◌-◌, ◌*◌, ◌/◌, ◌%◌, cond, List, [], ◌∷◌, ◌++◌, ltb, take_while}
+use Rattle.std.specs.Char.{is_ascii_digit}
 
-unfoldable pub is_digit : ℕ → Bool
-is_digit b = leb 48 b && leb b 57
-
-unfoldable pub front_digits : List ℕ → List ℕ
-front_digits [] = []
-front_digits (b ∷ s) = cond (is_digit b) (b ∷ front_digits s) []
+abbrev pub front_digits : List ℕ → List ℕ
+front_digits s = take_while is_ascii_digit s
 
 unfoldable pub value : ℕ → List ℕ → ℕ
 value v [] = v

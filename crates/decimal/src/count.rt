@@ -1,76 +1,57 @@
 // The count line: 1 to 5 digits, no leading 0 except "0" itself, then LF.
-ghost use Rattle.std.specs.Prelude.{◌≡◌, ◌≤◌, length, drop};
-ghost use Rattle.decimal.specs.Decimal.{is_digit, front_digits, value};
-ghost use Rattle.decimal.specs.CountLine.{count_at};
+ghost use Rattle.std.specs.Prelude.{◌≡◌, ◌≤◌, EachIndex, IsTrue, length, drop, slice_index};
+ghost use Rattle.std.specs.Char.{is_ascii_digit};
+ghost use Rattle.decimal.specs.Decimal.{front_digits, value};
+ghost use Rattle.decimal.specs.CountLine.{right_count, count_at};
 
-// A count line: its number and the place after it, or ill-formed.
-#[derive(Clone, Copy)]
-pub enum Count {
-    Number(usize, usize),
-    Wrong,
+// A count line: its number and the place after it.
+#[derive(Clone, Copy, Debug, PartialEq, Eq)]
+pub struct Counted {
+    pub number: usize,
+    pub next: usize,
 }
 
-fn is_digit(b: u8) -> bool
-    ensures { result ≡ is_digit b }
+// How many digits stand in front.
+fn count_digits(line: &[u8]) -> usize
+    ensures { result ≡ length (front_digits line.now) }
 {
-    if b < 48 {
-        return false;
-    }
-    b <= 57
+    line.iter().take_while(|b| b.is_ascii_digit()).count()
 }
 
-// How many digits stand from a place on.
-fn count_digits(sheet: &[u8], from: usize) -> usize
-    requires { from ≤ length sheet.now }
-    ensures { result ≡ length (front_digits (drop from sheet.now)) }
-{
-    let mut at = from;
-    while at < sheet.len() {
-        if !is_digit(sheet[at]) {
-            return at - from;
-        }
-        at += 1;
-    }
-    at - from
-}
-
-// The number that n digits write.
-fn value_of(sheet: &[u8], from: usize, n: usize) -> usize
-    requires { (from ≤ length sheet.now) × (n ≡ length (front_digits (drop from sheet.now))) × (n ≤ 5) }
-    ensures { result ≡ value 0 (front_digits (drop from sheet.now)) }
+// The number that digits write.
+fn value_of(digits: &[u8]) -> usize
+    requires digits { EachIndex digits.now (λ i. IsTrue (is_ascii_digit (slice_index digits.now i))) }
+    requires few { length digits.now ≤ 5 }
+    ensures { result ≡ value 0 digits.now }
 {
     let mut v: usize = 0;
-    let mut i: usize = 0;
-    while i < n {
-        v = v * 10 + (sheet[from + i] - 48) as usize;
-        i += 1;
+    for b in digits {
+        v = v * 10 + usize::from(b - b'0');
     }
     v
 }
 
-// Reads the count line at a place.
-pub fn read_count(sheet: &[u8], from: usize) -> Count
+// Whether a line begins with a right count of n digits.
+fn is_right(line: &[u8], n: usize) -> bool
+    requires { n ≤ length line.now }
+    ensures { result ≡ right_count line.now n }
+{
+    let ended = n < line.len() && line[n] == b'\n';
+    0 < n && n <= 5 && ended && !(1 < n && line[0] == b'0')
+}
+
+// Reads the count line at a place, where it is well-formed.
+pub fn read_count(sheet: &[u8], from: usize) -> Option<Counted>
     requires { from ≤ length sheet.now }
     ensures { result ≡ count_at from (drop from sheet.now) }
 {
-    let n = count_digits(sheet, from);
-    if n == 0 {
-        return Count::Wrong;
+    let line = &sheet[from..];
+    let n = count_digits(line);
+    if !is_right(line, n) {
+        return None;
     }
-    if 5 < n {
-        return Count::Wrong;
-    }
-    let end = from + n;
-    if sheet.len() <= end {
-        return Count::Wrong;
-    }
-    if sheet[end] != 10 {
-        return Count::Wrong;
-    }
-    if 1 < n {
-        if sheet[from] == 48 {
-            return Count::Wrong;
-        }
-    }
-    Count::Number(value_of(sheet, from, n), end + 1)
+    Some(Counted {
+        number: value_of(&line[..n]),
+        next: from + n + 1,
+    })
 }

@@ -21,10 +21,10 @@ pub fn len(n: u64) -> usize
 fn low_digit(n: u64) -> u8
     ensures { result ≡ 48 + n % 10 }
 {
-    48 + (n % 10) as u8
+    b'0' + (n % 10) as u8
 }
 
-// Writes n at a place, and answers the place after it.
+// Writes n at a place, and answers the place after it. By hand: `write!` into the slice would answer a Result that is never an error here.
 pub fn put(out: &mut [u8], at: usize, n: u64) -> usize
     requires { at + length (decimal n) ≤ length out.old }
     ensures { (result ≡ at + length (decimal n)) × (out.new ≡ sets out.old at (decimal n)) }

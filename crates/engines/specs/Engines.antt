@@ -4,9 +4,10 @@
 --   name_of e          its name there, with the space after it
 --   run_of e P T       the run that its rule makes
 --   Bounded e P T r   how large the counts of its answer r can be
-use Rattle.std.specs.Prelude.{ℕ, ◌+◌, ◌-◌, ◌*◌, ◌≤◌, ◌≡◌, List, [], ◌∷◌, length}
+use Rattle.std.specs.Prelude.{ℕ, ◌+◌, ◌-◌, ◌*◌, ◌≤◌, ◌≡◌, List, [], ◌∷◌, length, Result}
 use Rattle.hits.specs.Turns.{Run}
-use Rattle.inputs.specs.declared.refusal.Answer.{Answer}
+use Rattle.hits.specs.declared.work.Work.{Work}
+use Rattle.inputs.specs.declared.refusal.Refusal.{Refusal}
 use Rattle.inputs.specs.Answers.{scan_of, shift_of, steps_of}
 use Rattle.brute.specs.Brute.{brute_run}
 use Rattle.kmp.specs.Kmp.{kmp_run}
@@ -38,7 +39,7 @@ run_of ShiftAnd = shiftand_run
 run_of Hybrid = hybrid_run
 
 -- with m = length P and n = length T
-abbrev pub Bounded : Engine → List ℕ → List ℕ → Answer → Type 0
+abbrev pub Bounded : Engine → List ℕ → List ℕ → Result Work Refusal → Type 0
 Bounded Brute P T r = scan_of r ≤ length P * (length T + 1 - length P)
 Bounded Kmp P T r =
     (length P ≤ length T → scan_of r ≤ 2 * length T - length P)

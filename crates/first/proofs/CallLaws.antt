@@ -7,9 +7,9 @@ use borrow.Author.Tests.{lt-ltb}
 use lib.IntN.{ℤ}
 use lib.ListN.{length}
 use Rattle.promise.specs.Promised.{Promised}
-use Rattle.inputs.specs.Refusals.{verdict, refuse, with_room}
-use Rattle.inputs.specs.declared.refusal.Check.{Check}
-use Rattle.inputs.specs.declared.refusal.Check.TheVariants.{Passed, Refused}
+use Rattle.std.specs.Prelude.{Result, Ok, Err}
+use Rattle.inputs.specs.declared.refusal.Refusal.{Refusal}
+use Rattle.inputs.specs.Refusals.{Check, verdict, refuse, with_room}
 use Rattle.inputs.proofs.CheckLaws.{room_passed}
 use Rattle.codes.specs.Called.{short_of}
 use Rattle.first.specs.First.{first_run, first_of, Sought}
@@ -27,11 +27,11 @@ module _ (K M N k : ℕ) (P T d : List ℕ) where
   first_short l r e = go (verdict K M N k P T) e
     where
       go : (c : Check) → r ≡ short_of c → Told (with_room 2 (length d) c) r d
-      go (Refused q) e = record { answers = e; leaves = refl }
-      go Passed e = rw (lt-ltb (length d) 2 l) (record { answers = e; leaves = refl })
+      go (Err q) e = record { answers = e; leaves = refl }
+      go (Ok tt) e = rw (lt-ltb (length d) 2 l) (record { answers = e; leaves = refl })
 
   -- the search was made
-  pub first_full : 1 < length d → (a : First) (left : List ℕ) (r : ℤ) → Sought K M N k P T a → r ≡ first_code a → left ≡ found_left a d → FirstCalled K M N k P T d r left
+  pub first_full : 1 < length d → (a : Result First Refusal) (left : List ℕ) (r : ℤ) → Sought K M N k P T a → r ≡ first_code a → left ≡ found_left a d → FirstCalled K M N k P T d r left
   first_full l a left r p er el =
       rw (room_passed 2 (length d) (verdict K M N k P T) (omega arith))
-      (record { answers = er ∙ ap first_code p.answers; leaves = el ∙ ap (λ (x : First). found_left x d) p.answers })
+      (record { answers = er ∙ ap first_code p.answers; leaves = el ∙ ap (λ (x : Result First Refusal). found_left x d) p.answers })

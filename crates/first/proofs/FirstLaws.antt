@@ -23,7 +23,7 @@ use Rattle.hits.proofs.ScanLaws.{scan_hit, tests_le, tests_same}
 use Rattle.hits.proofs.RunLaws.{run_on, by_start, run_enough}
 use Rattle.hits.proofs.HeadLaws.{first_stop, first_on, first_head, first_none, first_scan_le}
 use Rattle.inputs.specs.Refusals.{verdict}
-use Rattle.inputs.specs.declared.refusal.Check.TheVariants.{Passed}
+use Rattle.std.specs.Prelude.{Ok}
 use Rattle.brute.specs.Brute.{brute_turn, brute_run}
 use Rattle.brute.proofs.BruteLaws.{sound, brute_finds, brute_scan, brute_small}
 use Rattle.first.specs.First.{first_run, found_of, first_of, FirstBound, scans_from}
@@ -177,10 +177,10 @@ pub first_small : {M N : ℕ} {P T : List ℕ} → Sized M N P T → (first_run 
 first_small {M} {N} {P} {T} s = omega (arith, first_le P T, brute_small s)
 
 -- what is answered keeps the bound
-pub first_bound : (P T : List ℕ) → FirstBound (length P) (length T) (found_of (first_run P T))
+pub first_bound : (P T : List ℕ) → FirstBound (length P) (length T) (Ok (found_of (first_run P T)))
 first_bound P T = by (hits P T) refl
   where
-    by : (xs : List ℕ) → hits P T ≡ xs → FirstBound (length P) (length T) (found_of (first_run P T))
+    by : (xs : List ℕ) → hits P T ≡ xs → FirstBound (length P) (length T) (Ok (found_of (first_run P T)))
     by [] e = rw (first_whole P T e, brute_finds P T, e) (brute_scan P T)
     by (s ∷ ss) e = let h = head_first P T s ss e in rw (first_at P T s h) (rw (first_at P T s h) at (first_most P T s h))
 
@@ -217,6 +217,6 @@ module _ (P T U : List ℕ) (s : ℕ) (ss : List ℕ) (head : hits P T ≡ s ∷
       ∙ sym (first_at P T s here)
 
   -- and get the same answer, where both are accepted
-  pub same_answer : (K M N k l : ℕ) → verdict K M N k P T ≡ Passed → verdict K M N l P U ≡ Passed
+  pub same_answer : (K M N k l : ℕ) → verdict K M N k P T ≡ Ok tt → verdict K M N l P U ≡ Ok tt
       → first_of (verdict K M N l P U) (first_run P U) ≡ first_of (verdict K M N k P T) (first_run P T)
   same_answer K M N k l a b = rw (a, b, same_front)

@@ -5,24 +5,26 @@ ghost use Rattle.first.specs.Called.{first_code, found_left, FirstCalled};
 use crate::First;
 use codes::refusal_code;
 use codes::search::too_few;
+use inputs::refusal::Refusal;
 use letters::letter::Letter;
 use letters::strings::{Pattern, Text};
 
 // 1 or 0 for the answer, or the refusal; the scan tests, and the start if there is one, go into lent memory.
-fn told(a: First, found: &mut [u64]) -> i64
+fn told(answer: Result<First, Refusal>, found: &mut [u64]) -> i64
     requires { 1 < length found.old }
-    ensures { (result ≡ first_code a) × (found.new ≡ found_left a found.old) }
+    ensures { (result ≡ first_code answer) × (found.new ≡ found_left answer found.old) }
 {
-    match a {
-        First::Refused(r) => refusal_code(r),
-        First::Nowhere(scan) => {
-            found[0] = scan;
-            0
-        }
-        First::At(start, scan) => {
-            found[0] = scan;
-            found[1] = start as u64;
-            1
+    match answer {
+        Err(r) => refusal_code(r),
+        Ok(first) => {
+            found[0] = first.scan;
+            match first.start {
+                None => 0,
+                Some(start) => {
+                    found[1] = start as u64;
+                    1
+                }
+            }
         }
     }
 }

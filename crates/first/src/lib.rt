@@ -10,17 +10,15 @@ ghost use Rattle.first.specs.First.{first_run, found_of, Sought, FirstBound};
 
 use brute::step;
 use inputs::checks::checked;
-use inputs::refusal::{Check, Refusal};
+use inputs::refusal::Refusal;
 use letters::letter::Letter;
 use letters::strings::{Pattern, Text};
-use letters::width::wide;
 
-// The first start that is a hit, or none; and the scan tests. Or the refusal.
-#[derive(Clone, Copy)]
-pub enum First {
-    At(usize, u64),
-    Nowhere(u64),
-    Refused(Refusal),
+// The first start that is a hit, if any is; and the scan tests.
+#[derive(Clone, Copy, Debug, PartialEq, Eq)]
+pub struct First {
+    pub start: Option<usize>,
+    pub scan: u64,
 }
 
 // The same number, through a narrower type. A sum that is carried on as it stands is taken by the compiler into the scan of each start, one more instruction a
@@ -29,7 +27,7 @@ fn narrowed(tests: u64) -> u64
     requires { tests < 2 ^ 32 }
     ensures { result ≡ tests }
 {
-    wide(tests as u32)
+    u64::from(tests as u32)
 }
 
 // The run over the starts, up to the first hit.
@@ -37,33 +35,27 @@ fn run(p: &[u32], t: &[u32]) -> First
     requires { Sized Pattern.MAX_M Text.MAX_N p.now t.now }
     ensures { result ≡ found_of (first_run p.now t.now) }
 {
-    let m = p.len();
-    let n = t.len();
-    if n < m {
-        return First::Nowhere(0);
-    }
-    let last = n - m;
-    let mut i = 0;
+    let starts = (t.len() + 1).saturating_sub(p.len());
     let mut scan: u64 = 0;
-    while i <= last {
+    for i in 0..starts {
         let s = step(p, t, i);
         let tests = scan + s.scan;
         if s.hit {
-            return First::At(i, tests);
+            return First {
+                start: Some(i),
+                scan: tests,
+            };
         }
         scan += narrowed(s.scan);
-        i = s.next;
     }
-    First::Nowhere(scan)
+    First { start: None, scan }
 }
 
 // The first start at which the pattern meets the text, by brute.
-pub fn search(k: u32, p: &[u32], t: &[u32]) -> First
+pub fn search(k: u32, p: &[u32], t: &[u32]) -> Result<First, Refusal>
     ensures promise { Sought Letter.MAX_K Pattern.MAX_M Text.MAX_N k p.now t.now result }
     ensures bound { FirstBound (length p.now) (length t.now) result }
 {
-    match checked(k, p, t) {
-        Check::Refused(r) => First::Refused(r),
-        Check::Passed => run(p, t),
-    }
+    checked(k, p, t)?;
+    Ok(run(p, t))
 }

@@ -2,17 +2,13 @@
 ghost use Rattle.std.specs.Prelude.{◌≡◌};
 
 use crate::First;
+use inputs::refusal::Refusal;
+use inputs::twice::Twice;
 
-#[derive(Drop)]
-struct Firsts {
-    first: First,
-    second: First,
-}
-
-fn search_twice(k: u32, p: &[u32], t: &[u32]) -> Firsts
+fn search_twice(k: u32, p: &[u32], t: &[u32]) -> Twice<Result<First, Refusal>>
     ensures { result.first ≡ result.second }
 {
     let first = crate::search(k, p, t);
     let second = crate::search(k, p, t);
-    Firsts { first, second }
+    Twice { first, second }
 }

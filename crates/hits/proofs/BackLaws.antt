@@ -33,17 +33,6 @@ module _ (P T : List ℕ) (i : ℕ) where
   unfolding back
   back_off e n = rw n
 
-  -- it stops short only at a letter that does not meet
-  pub back_halt : (e : ℕ) → back P T i e < e → at (e - 1 - back P T i e) ≡ false
-  unfolding back
-  back_halt zero l = absurd (omega arith)
-  back_halt (suc e) l =
-      bool_cases (at e)
-      (λ y. let l' = rw y at l in
-      let z : suc e - 1 - suc (back P T i e) ≡ e - 1 - back P T i e = omega arith in
-      rw (y, z) (back_halt e (omega arith)))
-      (λ n. let z : suc e - 1 - 0 ≡ e = omega arith in rw (n, z, n))
-
   -- its tests: one for each letter passed, and one for the letter that stopped it
   pub tests_back : (e : ℕ) → back_tests P T i e ≡ back P T i e + tally (ltb (back P T i e) e)
   unfolding back back_tests

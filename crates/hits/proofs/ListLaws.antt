@@ -2,9 +2,8 @@
 use mathlib.Core.Path.{◌≡◌, refl, sym, ap, ◌∙◌}
 use mathlib.Core.Bool.{Bool, true, false}
 use mathlib.Core.List.{List, [], ◌∷◌, ◌++◌, append-nil, append_assoc}
-use Prim.Native.Nat.{ℕ, suc, ◌+◌, ◌≤◌}
+use Prim.Native.Nat.{ℕ, suc, ◌≤◌}
 use native.Mathlib.Omega.{arith}
-use native.Mathlib.Nat.{add-zero}
 use native.Mathlib.Numerals.{add-one}
 use lib.ListN.{length, set, length-append, length-set}
 use Rattle.letters.specs.Members.{keep}
@@ -39,11 +38,3 @@ pub length_noted : (xs d : List ℕ) (total : ℕ) → length (noted_all xs d to
 unfolding noted_all
 length_noted [] d total = refl
 length_noted (x ∷ xs) d total = length_noted xs (set d total x) (suc total) ∙ length-set d total x
-
--- noting two lists of hits, one after the other
-pub noted_append : (xs ys d : List ℕ) (total : ℕ) → noted_all (xs ++ ys) d total ≡ noted_all ys (noted_all xs d total) (total + length xs)
-unfolding noted_all
-noted_append [] ys d total = rw (add-zero total)
-noted_append (x ∷ xs) ys d total =
-    let z : suc total + length xs ≡ total + suc (length xs) = omega arith in
-    noted_append xs ys (set d total x) (suc total) ∙ ap (λ (t : ℕ). noted_all ys (noted_all xs (set d total x) (suc total)) t) z

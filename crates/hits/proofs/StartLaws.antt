@@ -10,7 +10,6 @@ use lib.ListN.{length, length-append}
 use Rattle.letters.specs.Members.{keep}
 use Rattle.letters.proofs.Truth.{both_ways}
 use Rattle.lent.specs.Over.{over}
-use Rattle.lent.proofs.OverLaws.{length_over}
 use Rattle.hits.specs.Hits.{starts_from}
 use Rattle.hits.specs.Counts.{tally, noted, noted_all}
 use Rattle.hits.specs.Meaning.{Listed, Ascends}
@@ -136,9 +135,6 @@ module _ (b : ℕ → Bool) (d : List ℕ) where
   module _ (i : ℕ) (list : List ℕ) (total : ℕ) (w : Noting b d i list total) where
     pub noting_few : total ≤ i
     noting_few = omega (arith, w.counts, length_starts b i 0)
-
-    pub noting_room : length list ≡ length d
-    noting_room = ap length w.lists ∙ length_over (starts_from b i 0) d
 
     one_more : starts_from b (i + 1) 0 ≡ starts_from b i 0 ++ keep (b i) i []
     unfolding starts_from

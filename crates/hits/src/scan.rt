@@ -11,17 +11,15 @@ pub fn reach_to(p: &[u32], t: &[u32], i: usize, a: usize, b: usize) -> usize
     requires { (a ≤ b) × (b ≤ length p.now) × (i + b ≤ length t.now) }
     ensures { result ≡ reach p.now t.now i a (b - a) }
 {
-    let mut j = a;
-    while j < b {
+    for j in a..b {
         if common(p[j], t[i + j]) == 0 {
             return j;
         }
-        j += 1;
     }
-    j
+    b
 }
 
-#[derive(Clone, Copy)]
+#[derive(Clone, Copy, Debug, PartialEq, Eq)]
 pub struct Back {
     pub left: usize,
     pub sure: bool,
@@ -32,18 +30,13 @@ pub fn scan_back(p: &[u32], t: &[u32], whole: bool, i: usize, e: usize) -> Back
     requires { (e ≤ length p.now) × (i + e ≤ length t.now) }
     ensures { (result.left ≤ e) × (e - result.left ≡ back p.now t.now i e) × (result.sure ≡ (whole && all_single t.now (i + result.left) (e - result.left))) }
 {
-    let mut k = e;
     let mut sure = whole;
-    while 0 < k {
-        let j = k - 1;
+    for j in (0..e).rev() {
         let c = t[i + j];
         if common(p[j], c) == 0 {
-            return Back { left: k, sure };
+            return Back { left: j + 1, sure };
         }
-        k = j;
-        if sure {
-            sure = lone(c);
-        }
+        sure = sure && lone(c);
     }
-    Back { left: k, sure }
+    Back { left: 0, sure }
 }

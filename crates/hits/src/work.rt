@@ -2,7 +2,7 @@
 ghost use Rattle.std.specs.Prelude.{◌≡◌, ◌+◌, ◌^◌, ◌<◌};
 ghost use Rattle.hits.specs.Counts.{tally, noted};
 
-#[derive(Clone, Copy)]
+#[derive(Clone, Copy, Debug, PartialEq, Eq, Default)]
 pub struct Work {
     pub total: usize,
     pub scan: u64,
@@ -11,19 +11,12 @@ pub struct Work {
 }
 
 // A turn of an engine whose state is the start alone: whether that start is a hit, the next start, and the tests.
-#[derive(Clone, Copy)]
+#[derive(Clone, Copy, Debug, PartialEq, Eq)]
 pub struct Turned {
     pub hit: bool,
     pub next: usize,
     pub scan: u64,
     pub shift: u64,
-}
-
-// 1 for a test that holds.
-pub fn count(b: bool) -> u64
-    ensures { result ≡ tally b }
-{
-    if b { 1 } else { 0 }
 }
 
 // Writes a hit after those that are noted, where the list has room, and counts it.

@@ -1,7 +1,7 @@
 -- What the loop of word steps keeps, and the laws that answer its needs. Assumes nothing.
 use mathlib.Core.Path.{◌≡◌, refl, sym, ap, ◌∙◌}
 use mathlib.Core.Bool.{Bool, true, false, cond}
-use mathlib.Core.List.{List, []}
+use mathlib.Core.List.{List}
 use Prim.Native.Nat.{ℕ, suc, ◌+◌, ◌-◌, ◌≤◌, ◌<◌}
 use native.Mathlib.Nat.{add-zero}
 use native.Mathlib.Numerals.{add-one}
@@ -11,7 +11,7 @@ use lib.Dec.{eqb}
 use lib.ListN.{length, get_or}
 use Rattle.letters.specs.Members.{keep}
 use Rattle.hits.specs.Counts.{tally, noted, noted_all}
-use Rattle.hits.proofs.ListLaws.{noted_keep, tally_le, length_noted}
+use Rattle.hits.proofs.ListLaws.{tally_le}
 use Rattle.word.specs.Word.{stepped, is_set}
 use Rattle.hybrid.specs.Stretches.{Stretch, no_step, step_to, stretch}
 use Rattle.hybrid.specs.Hybrid.{stretched, HybridTurns}
@@ -25,20 +25,17 @@ abbrev pub behind : List ℕ → List ℕ → ℕ → ℕ → Stretch
 behind P T e w = cond (eqb w 0) (no_step e) (ahead P T e w)
 
 -- the loop from a, with the list d lent and `total` hits noted before: at e, what it has noted and counted and what the steps r will come to all steps from a
-pub record Stepping (P T : List ℕ) (a : ℕ) (d : List ℕ) (total m n e : ℕ) (r : Stretch) (list : List ℕ) (count : ℕ) : Type 0 where
-  pub pattern : m ≡ length P
-  pub text : n ≡ length T
+pub record Stepping (P T : List ℕ) (a : ℕ) (d : List ℕ) (total e : ℕ) (r : Stretch) (list : List ℕ) (count : ℕ) : Type 0 where
   pub above : a ≤ e
   pub few : count ≤ total + (e - a)
-  pub room : length list ≡ length d
   pub lists : noted_all (ahead P T a 0).found d total ≡ noted_all r.found list count
   pub counts : total + length (ahead P T a 0).found ≡ count + length r.found
   pub nexts : (ahead P T a 0).next ≡ r.next
   pub word_steps : (ahead P T a 0).steps ≡ e - a + r.steps
 
-pub begin : (P T : List ℕ) (a : ℕ) (d : List ℕ) (total : ℕ) → Stepping P T a d total (length P) (length T) a (ahead P T a 0) d total
+pub begin : (P T : List ℕ) (a : ℕ) (d : List ℕ) (total : ℕ) → Stepping P T a d total a (ahead P T a 0) d total
 begin P T a d total =
-    record { pattern = refl; text = refl; above = omega arith; few = omega arith; room = refl; lists = refl; counts = refl; nexts = refl; word_steps = omega arith }
+    record { above = omega arith; few = omega arith; lists = refl; counts = refl; nexts = refl; word_steps = omega arith }
 
 -- where there is a letter, a step and those after it
 ahead_step : (P T : List ℕ) (e w : ℕ) → e < length T
@@ -56,9 +53,9 @@ length_first : (b : Bool) (i : ℕ) (xs : List ℕ) → length (keep b i xs) ≡
 length_first true i xs = omega arith
 length_first false i xs = omega arith
 
-module _ {P T : List ℕ} {a : ℕ} {d : List ℕ} {total m n e : ℕ} {list : List ℕ} {count : ℕ} where
+module _ {P T : List ℕ} {a : ℕ} {d : List ℕ} {total e : ℕ} {list : List ℕ} {count : ℕ} where
   -- with no step left it is all
-  over : Stepping P T a d total m n e (no_step e) list count
+  over : Stepping P T a d total e (no_step e) list count
       → HybridTurns (stretched (ahead P T a 0)) d total (record { next = e; total = count; scan = 1; steps = e - a }) list
   unfolding noted_all
   over k =
@@ -67,24 +64,21 @@ module _ {P T : List ℕ} {a : ℕ} {d : List ℕ} {total m n e : ℕ} {list : L
       record { answers = rw (k.nexts, s, c); leaves = sym k.lists }
 
   module _ (w : ℕ) where
-    module _ (k : Stepping P T a d total m n e (ahead P T e w) list count) where
+    module _ (k : Stepping P T a d total e (ahead P T e w) list count) where
       -- one word step, and the hit noted that it found
-      pub step : (w' : ℕ) (list' : List ℕ) (count' : ℕ) (b : Bool) → e < n
-          → w' ≡ stepped P (get_or T e 0) w → b ≡ is_set (m - 1) w' → list' ≡ noted b list count (e + 1 - m) → count' ≡ count + tally b
-          → Stepping P T a d total m n (e + 1) (behind P T (e + 1) w') list' count'
-      step w' list' count' b l ew eb el ec =
+      pub step : (m w' : ℕ) (list' : List ℕ) (count' : ℕ) (b : Bool) → m ≡ length P → e < length T
+          → w' ≡ stepped P (get_or T e 0) w → b ≡ is_set (length P - 1) w' → list' ≡ noted b list count (e + 1 - m) → count' ≡ count + tally b
+          → Stepping P T a d total (e + 1) (behind P T (e + 1) w') list' count'
+      step m w' list' count' b em l ew eb el ec =
           let i = e + 1 - length P in
           let xs = (behind P T (e + 1) w').found in
           let u : ahead P T e w ≡ step_to P (e + 1) w' (behind P T (e + 1) w') = rw ew (ahead_step P T e w (omega arith)) in
-          let f : (ahead P T e w).found ≡ keep b i xs = ap (λ (r : Stretch). r.found) u ∙ rw (eb, k.pattern) in
-          let x : list' ≡ noted b list count i = rw k.pattern at el in
+          let f : (ahead P T e w).found ≡ keep b i xs = ap (λ (r : Stretch). r.found) u ∙ rw eb in
+          let x : list' ≡ noted b list count i = rw em at el in
           let t = tally_le b in
           record {
-            pattern = k.pattern;
-            text = k.text;
             above = omega (arith, k.above);
             few = omega (arith, k.few, k.above);
-            room = ap length (x ∙ noted_keep b i list count) ∙ length_noted (keep b i []) list count ∙ k.room;
             lists = k.lists ∙ rw (f, x, ec) (noted_first b i xs list count);
             counts = omega (arith, k.counts, ap length f, length_first b i xs);
             nexts = k.nexts ∙ ap (λ (r : Stretch). r.next) u;
@@ -92,13 +86,13 @@ module _ {P T : List ℕ} {a : ℕ} {d : List ℕ} {total m n e : ℕ} {list : L
           }
 
       -- at the text's end
-      pub at_end : n ≤ e → HybridTurns (stretched (ahead P T a 0)) d total (record { next = e; total = count; scan = 1; steps = e - a }) list
+      pub at_end : length T ≤ e → HybridTurns (stretched (ahead P T a 0)) d total (record { next = e; total = count; scan = 1; steps = e - a }) list
       unfolding stretch
-      at_end h = let z : length T - e ≡ 0 = omega (arith, k.text) in over (rw z at k)
+      at_end h = let z : length T - e ≡ 0 = omega arith in over (rw z at k)
 
-    module _ (k : Stepping P T a d total m n e (behind P T e w) list count) where
+    module _ (k : Stepping P T a d total e (behind P T e w) list count) where
       -- a state that is not 0: on with the next letter
-      pub alive_on : (w ≡ 0 → ⊥) → Stepping P T a d total m n e (ahead P T e w) list count
+      pub alive_on : (w ≡ 0 → ⊥) → Stepping P T a d total e (ahead P T e w) list count
       alive_on n = rw (ne_eqb w 0 n) at k
 
       -- a state of 0: no step more

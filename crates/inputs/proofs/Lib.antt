@@ -1,3 +1,4 @@
 pub mod BadLaws
 pub mod CheckLaws
 pub mod SearchLaws
+pub mod StartLaws

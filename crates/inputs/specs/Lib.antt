@@ -1,2 +1,4 @@
+pub mod Numbers
 pub mod Refusals
+pub mod Starts
 pub mod Answers

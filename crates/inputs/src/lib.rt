@@ -3,4 +3,6 @@
 
 pub mod checks;
 pub mod refusal;
+pub mod rule;
+pub mod starts;
 pub mod twice;

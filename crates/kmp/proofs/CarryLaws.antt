@@ -20,8 +20,9 @@ use Rattle.shifts.specs.Least.{least}
 use Rattle.shifts.specs.Shift.{fit, trials}
 use Rattle.pattern.proofs.EntryLaws.{sure_at, front_table}
 use Rattle.pattern.proofs.ShiftTable.{front_shift}
-use Rattle.kmp.specs.Kmp.{At, Known, KmpReady, NotSingleAt, now_met, shift_by, shift_tests, kmp_turn}
-use Rattle.kmp.proofs.KmpLaws.{shift_is, shift_ge, shift_le, shift_end}
+use Rattle.kmp.specs.declared.Standing.{Standing}
+use Rattle.kmp.specs.Kmp.{At, Known, KmpReady, NotSingleAt, Scanned, at_of, now_met, shift_by, shift_tests, kmp_turn}
+use Rattle.kmp.proofs.KmpLaws.{shift_is, shift_ge, shift_le, shift_top, shift_end}
 
 module _ (T : List ℕ) where
   pub not_single_begin : NotSingleAt T 0 0 0
@@ -48,11 +49,17 @@ module _ (T : List ℕ) where
   pub not_single_past : (i j u : ℕ) → NotSingleAt T i j u → single (get_or T (i + j) 0) ≡ true → NotSingleAt T i (j + 1) u
   not_single_past i j u e y = let z : i + (j + 1) ≡ suc (i + j) = omega arith in rw (z, below_past T (i + j) y) e
 
-  pub not_single_seen : (i j : ℕ) → single (get_or T (i + j) 0) ≡ false → NotSingleAt T i (j + 1) (i + (j + 1))
-  not_single_seen i j n = let z : i + (j + 1) ≡ suc (i + j) = omega arith in rw (z, below_here T (i + j) n)
+  pub not_single_seen : (i j : ℕ) → single (get_or T (i + j) 0) ≡ false → NotSingleAt T i (j + 1) (i + j + 1)
+  not_single_seen i j n = let z : i + (j + 1) ≡ suc (i + j) = omega arith in rw (z, below_here T (i + j) n) (omega arith)
 
 -- the shift by what is prepared and carried
-module _ {M : ℕ} {P T by : List ℕ} {sure i h u : ℕ} (pos : 0 < h) (ready : KmpReady M P by sure) (k : Known P T i h u) where
+module _ {M : ℕ} {P T by : List ℕ} {sure : ℕ} {s : Standing} (pos : 0 < s.known) (ready : KmpReady M P by sure) (k : Known P T s) where
+  abbrev i : ℕ
+  i = s.start
+
+  abbrev h : ℕ
+  h = s.known
+
   abbrev end : ℕ
   end = length T + 1 - (length P + i)
 
@@ -60,29 +67,29 @@ module _ {M : ℕ} {P T by : List ℕ} {sure i h u : ℕ} (pos : 0 < h) (ready :
   pattern_single : all_single P 0 h ≡ leb h sure
   pattern_single = sure_at P sure ready.prefix h k.short
 
-  text_single : all_single T i h ≡ leb u i
-  text_single = single_text T i h u k.carried
+  text_single : all_single T i h ≡ leb s.unsure i
+  text_single = single_text T i h s.unsure k.carried
 
   -- where one is not, the shift is found by trying, which is not past the first start past the last, and the trials are counted
-  pub tried : (s c : ℕ) → (ltb sure h || ltb i u) ≡ true → s ≡ least (fit P T i 0 h) 1 (h - 1) → c ≡ trials P T i 0 h 1 (h - 1)
-      → (min s end ≡ shift_by P T i h) × (c ≡ shift_tests P T i h)
+  pub tried : (x c : ℕ) → (ltb sure h || ltb i s.unsure) ≡ true → x ≡ least (fit P T i 0 h) 1 (h - 1) → c ≡ trials P T i 0 h 1 (h - 1)
+      → (min x end ≡ shift_by P T i h) × (c ≡ shift_tests P T i h)
   unfolding shift_tests
-  tried s c y es ec =
+  tried x c y es ec =
       let z = shift_is P T i h in
       let b = shift_end P T i h k.inside in
       let n : (all_single P 0 h && all_single T i h) ≡ false =
       bool_cases (ltb sure h)
       (λ q. rw (pattern_single, lt-leb h sure (ltb-true _ _ q)))
-      (λ q. rw (text_single, lt-leb u i (ltb-true _ _ (rw q at y))) (and-false (all_single P 0 h)))
+      (λ q. rw (text_single, lt-leb s.unsure i (ltb-true _ _ (rw q at y))) (and-false (all_single P 0 h)))
       in
       (omega arith, ec ∙ sym (rw n))
 
   -- else it is the pattern's own, cut there, and takes no test
-  pub own : (ltb sure h || ltb i u) ≡ false → (min (get_or by h 0) end ≡ shift_by P T i h) × (0 ≡ shift_tests P T i h)
+  pub own : (ltb sure h || ltb i s.unsure) ≡ false → (min (get_or by h 0) end ≡ shift_by P T i h) × (0 ≡ shift_tests P T i h)
   unfolding shift_tests
   own n =
-      let p = pattern_single ∙ le-leb h sure (ltb-false _ _ (or_false_l (ltb sure h) (ltb i u) n)) in
-      let t = text_single ∙ le-leb u i (ltb-false _ _ (or_false_r (ltb sure h) (ltb i u) n)) in (
+      let p = pattern_single ∙ le-leb h sure (ltb-false _ _ (or_false_l (ltb sure h) (ltb i s.unsure) n)) in
+      let t = text_single ∙ le-leb s.unsure i (ltb-false _ _ (or_false_r (ltb sure h) (ltb i s.unsure) n)) in (
         sym (shift_is P T i h ∙ front_shift P T by i h (front_table by ready.sized ready.shifts) pos k.short k.inside k.meet p t),
         sym (rw (p, t)),
       )
@@ -99,6 +106,15 @@ module _ {by end s h : ℕ} (e : min by end ≡ s) (l : s ≤ h) where
 pub end_way : (x m i : ℕ) → x - m - i ≡ x - (m + i)
 end_way x m i = omega arith
 
+-- from where the scan stopped: the shift found is of at most the letters that meet, and cut at the first start past the last or not
+module _ {P T : List ℕ} {s c : Standing} {by : ℕ} (m : Scanned P T s c) (pos : 0 < c.known) (e : min by (length T + 1 - (length P + c.start)) ≡ shift_by P T c.start c.known) where
+  pub stopped_cut : length T + 1 - length P - s.start < by → (length T + 1 - length P - s.start ≡ shift_by P T c.start c.known) × (length T + 1 - length P - s.start ≤ c.known)
+  stopped_cut a = omega (arith, m.same, shift_top P T c.start c.known pos)
+
+  pub stopped_uncut : by ≤ length T + 1 - length P - s.start → (by ≡ shift_by P T c.start c.known) × (by ≤ c.known)
+  stopped_uncut a = omega (arith, m.same, shift_top P T c.start c.known pos)
+
+-- that start lies past i
 pub end_past : (i m n : ℕ) → i + m ≤ n → i ≤ n + 1 - m
 end_past i m n l = omega arith
 
@@ -109,30 +125,32 @@ pub shift_none : (P T : List ℕ) (i h : ℕ) → h ≡ 0 → (1 ≡ shift_by P 
 unfolding shift_by shift_tests all_single
 shift_none P T i h e = rw e (refl, refl)
 
--- a turn at start i with r letters known: h letters now meet
-module _ {P T : List ℕ} {i r h u : ℕ} (w : Known P T i r u) (e : h ≡ now_met P T (record { start = i; known = r })) where
-  pub scan_on_ge : r ≤ h
+-- a turn from s, whose scan stopped at c
+module _ {P T : List ℕ} {s c : Standing} (w : Known P T s) (m : Scanned P T s c) where
+  pub scan_on_ge : s.known ≤ c.known
   unfolding now_met
-  scan_on_ge = rw e (reach_ge P T i r (length P - r))
+  scan_on_ge = rw m.met (reach_ge P T s.start s.known (length P - s.known))
 
   -- its tests, as the code adds them up
-  pub scan_counted : (x : ℕ) → x ≡ tally (ltb h (length P)) → h - r + x ≡ tests P T i r (length P - r)
+  pub scan_counted : (x : ℕ) → x ≡ tally (ltb c.known (length P)) → c.known - s.known + x ≡ tests P T s.start s.known (length P - s.known)
   unfolding now_met
   scan_counted x q =
-      let z : r + (length P - r) ≡ length P = omega (arith, w.short) in
-      let b = rw (z, ← e) at (tests_reach P T i r (length P - r)) in
+      let z : s.known + (length P - s.known) ≡ length P = omega (arith, w.short) in
+      let b = rw (z, ← m.met) at (tests_reach P T s.start s.known (length P - s.known)) in
       omega (arith, b, scan_on_ge)
 
-  pub scan_few : (x : ℕ) → x ≡ tally (ltb h (length P)) → h - r + x ≤ length P
-  scan_few x q = omega (arith, scan_counted x q, tests_le P T i r (length P - r))
+  pub scan_few : (x : ℕ) → x ≡ tally (ltb c.known (length P)) → c.known - s.known + x ≤ length P
+  scan_few x q = omega (arith, scan_counted x q, tests_le P T s.start s.known (length P - s.known))
 
   -- a turn of the code, number by number, is a turn of the rule; and what it carries still tells
-  pub turn_is : {v : ℕ} → Known P T i h v → (s : ℕ) → s ≡ shift_by P T i h → (hit : Bool) (start known scan shift : ℕ)
-      → hit ≡ eqb h (length P) → start ≡ i + s → known ≡ h - s → scan ≡ tests P T i r (length P - r) → shift ≡ shift_tests P T i h
-      → (◌≡◌ {A = Turn At} (record { found = keep hit i []; next = record { start = start; known = known }; scan = scan; shift = shift; steps = 0 })
-      (kmp_turn P T (record { start = i; known = r }))) × NotSingleAt T start known v
+  pub turn_is : (by : ℕ) → by ≡ shift_by P T c.start c.known → (hit : Bool) (start known scan shift : ℕ)
+      → hit ≡ eqb c.known (length P) → start ≡ s.start + by → known ≡ c.known - by → scan ≡ tests P T s.start s.known (length P - s.known) → shift ≡ shift_tests P T c.start c.known
+      → (◌≡◌ {A = Turn At} (record { found = keep hit s.start []; next = record { start = start; known = known }; scan = scan; shift = shift; steps = 0 })
+      (kmp_turn P T (at_of s))) × NotSingleAt T start known c.unsure
   unfolding kmp_turn
-  turn_is {v} k s es hit start known scan shift e0 e1 e2 e3 e4 =
-      let a = shift_ge P T i h in
-      let b = shift_le P T i h in
-      (rw (e0, e1, e2, e3, e4, es, e), rw (e1, e2) (not_single_shifted T i h v s k.carried (omega arith) (omega arith)))
+  turn_is by eb hit start known scan shift e0 e1 e2 e3 e4 =
+      let a = shift_ge P T s.start c.known in
+      let b = shift_le P T s.start c.known in
+      let z : by ≡ shift_by P T s.start c.known = rw m.same at eb in
+      let y : shift ≡ shift_tests P T s.start c.known = rw m.same at e4 in
+      (rw (e0, e1, e2, e3, y, z, m.met), rw (e1, e2) (not_single_shifted T s.start c.known c.unsure by (rw m.same at m.here.carried) (omega arith) (omega arith)))

@@ -9,8 +9,10 @@
 -- And of the code:
 --
 --   kmp_turn_of i r           the turn that a step of the code at start i stands for
+--   at_of s                   the state where it stands
 --   NotSingleAt T i r u     u tells where the last text letter that is not single stands
---   Known P T i r u         what the code holds at start i
+--   Known P T s             what the code holds where it stands
+--   Scanned P T s c         and where a scan on from s has stopped
 --   KmpReady M P by sure    what it holds of the pattern
 use Rattle.std.specs.Prelude.{ℕ, suc, ◌+◌, ◌-◌, ◌≤◌, max, ◌≡◌, Bool, true, cond, ◌&&◌, List, [], eqb, length}
 use Rattle.letters.specs.Members.{keep}
@@ -23,6 +25,7 @@ use Rattle.shifts.specs.Least.{least}
 use Rattle.shifts.specs.Shift.{fit, trials}
 use Rattle.pattern.specs.Tables.{sure_prefix, front_shifts}
 use Rattle.kmp.specs.declared.KmpTurned.{KmpTurned}
+use Rattle.kmp.specs.declared.Standing.{Standing}
 
 -- start i, with r letters known to meet
 pub record At : Type 0 where
@@ -65,10 +68,13 @@ kmp_more P T s = within P T s.start
 unfoldable pub kmp_run : List ℕ → List ℕ → Run
 kmp_run P T = run (kmp_more P T) (kmp_turn P T) (suc (length T)) (record { start = 0; known = 0 })
 
+-- where the code stands, as the rule has it
+abbrev pub at_of : Standing → At
+at_of s = record { start = s.start; known = s.known }
+
 -- the turn that a step of the code at start i stands for
 abbrev pub kmp_turn_of : ℕ → KmpTurned → Turn At
-kmp_turn_of i r =
-    record { found = keep r.hit i []; next = record { start = r.start; known = r.known }; scan = r.scan; shift = r.shift; steps = 0 }
+kmp_turn_of i r = record { found = keep r.hit i []; next = at_of r.next; scan = r.scan; shift = r.shift; steps = 0 }
 
 -- u tells where, from i on, the last letter that is not single among the first i + r of T stands: the index after it; at or below i, there is none
 abbrev pub NotSingleAt : List ℕ → ℕ → ℕ → ℕ → Type 0
@@ -80,9 +86,15 @@ pub record KmpReady (M : ℕ) (P by : List ℕ) (sure : ℕ) : Type 0 where
   pub prefix : sure ≡ sure_prefix P
   pub shifts : by ≡ front_shifts M P
 
--- what the code holds at start i: that r letters meet there, and u
-pub record Known (P T : List ℕ) (i r u : ℕ) : Type 0 where
-  pub inside : i + length P ≤ length T
-  pub short : r ≤ length P
-  pub meet : met P T i 0 r ≡ true
-  pub carried : NotSingleAt T i r u
+-- what the code holds where it stands: that the known letters meet there, and the index after the last that is unsure
+pub record Known (P T : List ℕ) (s : Standing) : Type 0 where
+  pub inside : s.start + length P ≤ length T
+  pub short : s.known ≤ length P
+  pub meet : met P T s.start 0 s.known ≡ true
+  pub carried : NotSingleAt T s.start s.known s.unsure
+
+-- a scan on from s stopped at c: at the same start, with the letters that now meet
+pub record Scanned (P T : List ℕ) (s c : Standing) : Type 0 where
+  pub same : c.start ≡ s.start
+  pub met : c.known ≡ now_met P T (at_of s)
+  pub here : Known P T c

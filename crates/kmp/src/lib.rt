@@ -10,196 +10,197 @@
 // 5. A shift past the last start is cut to the first start past it, where the run ends.
 #![tactic(auto)]
 
-pub mod c;
 mod twice;
 
 ghost use Rattle.std.specs.Prelude.{◌≡◌, ◌||◌, ◌+◌, ◌-◌, ◌*◌, ◌≤◌, ◌<◌, min, ltb, length};
-ghost use Rattle.letters.specs.Sizes.{Sized};
-ghost use Rattle.hits.specs.Hits.{hits};
-ghost use Rattle.lent.specs.Over.{over};
-ghost use Rattle.hits.specs.Counts.{work_of};
+ghost use Rattle.letters.specs.declared.strings.TheConstants.Pattern.{MAX_M};
 ghost use Rattle.inputs.specs.Answers.{Searched, scan_of, shift_of};
-ghost use Rattle.kmp.specs.Kmp.{Known, KmpReady, NotSingleAt, now_met, shift_by, shift_tests, kmp_turn, kmp_run, kmp_turn_of};
+ghost use Rattle.kmp.specs.Kmp.{Known, KmpReady, NotSingleAt, Scanned, at_of, shift_by, shift_tests, kmp_turn, kmp_run, kmp_turn_of};
 
-use hits::work::{Work, count, note};
-use inputs::checks::checked;
-use inputs::refusal::{Answer, Check};
+use hits::work::{Work, note};
+use inputs::refusal::Refusal;
+use inputs::rule::Rule;
 use letters::letter::{Letter, common, lone};
 use letters::strings::{Pattern, Text};
-use letters::width::index;
 use pattern::Prepared;
 use pattern::tables::Shifts;
 use shifts::{Trials, try_shifts};
 
-#[derive(Drop)]
-struct KmpTurned {
-    hit: bool,
+// A start, how many letters are known to meet there, and the index after the last text letter among them that is unsure.
+#[derive(Clone, Copy, Debug, PartialEq, Eq)]
+struct Standing {
     start: usize,
     known: usize,
     unsure: usize,
+}
+
+impl Standing {
+    // Whether a letter is unsure, of those that meet or of the text under them; the pattern's first `sure` are not.
+    fn is_unsure(self, sure: usize) -> bool
+        ensures { result ≡ (ltb sure self.known || ltb self.start self.unsure) }
+    {
+        sure < self.known || self.start < self.unsure
+    }
+
+    // At another start, with some letters known there; the last unsure letter stays where it is.
+    fn moved(self, start: usize, known: usize) -> Self
+        ensures { result ≡ record { start = start; known = known; unsure = self.unsure } }
+    {
+        Standing {
+            start,
+            known,
+            unsure: self.unsure,
+        }
+    }
+}
+
+#[derive(Clone, Copy, Debug, PartialEq, Eq)]
+struct KmpTurned {
+    hit: bool,
+    next: Standing,
     scan: u64,
     shift: u64,
 }
 
-#[derive(Drop)]
-struct Scanned {
-    met: usize,
-    unsure: usize,
-}
-
-// Tests on from letter r, and keeps the index after the last unsure text letter that meets.
-fn scan_on(p: &[u32], t: &[u32], i: usize, r: usize, u: usize) -> Scanned
-    requires { Known p.now t.now i r u }
-    ensures { (result.met ≡ now_met p.now t.now (record { start = i; known = r })) × Known p.now t.now i result.met result.unsure }
+// Tests on from the letters known to meet to those that now meet, and keeps the index after the last unsure text letter.
+fn scan_on(p: &[u32], t: &[u32], s: Standing) -> Standing
+    requires { Known p.now t.now s }
+    ensures { Scanned p.now t.now s result }
 {
-    let mut j = r;
-    let mut last = u;
-    while j < p.len() {
+    let i = s.start;
+    let mut last = s.unsure;
+    for j in s.known..p.len() {
         let c = t[i + j];
         if common(p[j], c) == 0 {
-            return Scanned {
-                met: j,
+            return Standing {
+                start: i,
+                known: j,
                 unsure: last,
             };
         }
-        j += 1;
         if !lone(c) {
-            last = i + j;
+            last = i + j + 1;
         }
     }
-    Scanned {
-        met: j,
+    Standing {
+        start: i,
+        known: p.len(),
         unsure: last,
     }
 }
 
-// Whether a letter is unsure, of the first h that meet or of the text under them.
-fn is_unsure(sure: usize, i: usize, h: usize, u: usize) -> bool
-    ensures { result ≡ (ltb sure h || ltb i u) }
-{
-    if sure < h {
-        return true;
-    }
-    i < u
+// A pattern with what is worked out from it: its own shifts, and the length of its longest prefix of single letters. The table is lent, so that the rest can stand in registers.
+#[derive(Clone, Copy)]
+struct Readied<'a> {
+    p: &'a [u32],
+    by: &'a [u32; Pattern::MAX_M + 1],
+    sure: usize,
+    ghost ready: { KmpReady MAX_M p.now by.now sure },
 }
 
-// The shift where the first h letters meet, as yet not cut at the text's end, with its tests.
-fn shift_by(
-    p: &[u32],
-    t: &[u32],
-    by: &[u32; Pattern::MAX_M + 1],
-    sure: usize,
-    i: usize,
-    h: usize,
-    u: usize,
-) -> Trials
-    requires { (0 < h) × KmpReady Pattern.MAX_M p.now by.now sure × Known p.now t.now i h u }
-    ensures { (min result.by (length t.now + 1 - (length p.now + i)) ≡ shift_by p.now t.now i h) × (result.tests ≡ shift_tests p.now t.now i h) }
-{
-    if is_unsure(sure, i, h, u) {
-        return try_shifts(p, t, i, 0, h);
+impl<'a> Readied<'a> {
+    // The shift where the known letters meet, as yet not cut at the text's end, with its tests.
+    fn shift_by(&self, t: &[u32], s: Standing) -> Trials
+        requires { (0 < s.known) × Known self.now.p.now t.now s }
+        ensures { (min result.by (length t.now + 1 - (length self.now.p.now + s.start)) ≡ shift_by self.now.p.now t.now s.start s.known) × (result.tests ≡ shift_tests self.now.p.now t.now s.start s.known) }
+    {
+        if s.is_unsure(self.sure) {
+            return try_shifts(self.p, t, s.start, 0, s.known);
+        }
+        Trials {
+            by: self.by[s.known] as usize,
+            tests: 0,
+        }
     }
-    Trials {
-        by: index(by[h]),
-        tests: 0,
-    }
-}
 
-// A turn at start i, with r letters known to meet.
-fn step(
-    p: &[u32],
-    t: &[u32],
-    by: &[u32; Pattern::MAX_M + 1],
-    sure: usize,
-    i: usize,
-    r: usize,
-    u: usize,
-) -> KmpTurned
-    requires { KmpReady Pattern.MAX_M p.now by.now sure × Known p.now t.now i r u }
-    ensures { (kmp_turn_of i result ≡ kmp_turn p.now t.now (record { start = i; known = r })) × NotSingleAt t.now result.start result.known result.unsure }
-{
-    let m = p.len();
-    let c = scan_on(p, t, i, r, u);
-    let h = c.met;
-    let v = c.unsure;
-    if h == 0 {
-        return KmpTurned {
-            hit: false,
-            start: i + 1,
-            known: 0,
-            unsure: v,
-            scan: 1,
-            shift: 0,
-        };
-    }
-    let hit = h == m;
-    let scan = (h - r) as u64 + count(h < m);
-    let s = shift_by(p, t, by, sure, i, h, v);
-    // A branch, and not the smaller of the two: the next start need not wait for it. By m and then by i, so that their sum need not be kept.
-    let end = t.len() + 1 - m - i;
-    if end < s.by {
-        return KmpTurned {
+    // A turn.
+    fn step(&self, t: &[u32], s: Standing) -> KmpTurned
+        requires { Known self.now.p.now t.now s }
+        ensures { (kmp_turn_of s.start result ≡ kmp_turn self.now.p.now t.now (at_of s)) × NotSingleAt t.now result.next.start result.next.known result.next.unsure }
+    {
+        let m = self.p.len();
+        let i = s.start;
+        let c = scan_on(self.p, t, s);
+        let h = c.known;
+        if h == 0 {
+            return KmpTurned {
+                hit: false,
+                next: c.moved(i + 1, 0),
+                scan: 1,
+                shift: 0,
+            };
+        }
+        let hit = h == m;
+        let scan = (h - s.known) as u64 + u64::from(h < m);
+        let b = self.shift_by(t, c);
+        // A branch, and not the smaller of the two: the next start need not wait for it. By m and then by i, so that their sum need not be kept.
+        let end = t.len() + 1 - m - i;
+        if end < b.by {
+            return KmpTurned {
+                hit,
+                next: c.moved(t.len() + 1 - m, h - end),
+                scan,
+                shift: b.tests,
+            };
+        }
+        KmpTurned {
             hit,
-            start: t.len() + 1 - m,
-            known: h - end,
-            unsure: v,
+            next: c.moved(i + b.by, h - b.by),
             scan,
-            shift: s.tests,
-        };
-    }
-    KmpTurned {
-        hit,
-        start: i + s.by,
-        known: h - s.by,
-        unsure: v,
-        scan,
-        shift: s.tests,
+            shift: b.tests,
+        }
     }
 }
 
-// The run over all starts.
-fn run(p: &[u32], t: &[u32], list: &mut [u32]) -> Work
-    requires { Sized Pattern.MAX_M Text.MAX_N p.now t.now }
-    ensures { (result ≡ work_of (hits p.now t.now) (kmp_run p.now t.now)) × (list.new ≡ over (hits p.now t.now) list.old) }
-{
-    let m = p.len();
-    let n = t.len();
-    // In this order the compiler keeps more of what a start needs in registers (docs/SPEED.md).
-    let shifts = Shifts::from_front(p);
-    let by = shifts.by;
-    let pattern = Prepared::new(p);
-    let sure = pattern.sure;
-    let mut i = 0;
-    let mut r = 0;
-    let mut u = 0;
-    let mut total = 0;
-    let mut scan: u64 = 0;
-    let mut shift: u64 = 0;
-    while i + m <= n {
-        let s = step(p, t, &by, sure, i, r, u);
-        total = note(list, total, i, s.hit);
-        scan += s.scan;
-        shift += s.shift;
-        i = s.start;
-        r = s.known;
-        u = s.unsure;
-    }
-    Work {
-        total,
-        scan,
-        shift,
-        steps: 0,
+// The engine.
+#[derive(Clone, Copy, Debug, PartialEq, Eq)]
+pub struct Kmp;
+
+impl Rule for Kmp {
+    ghost turns = { kmp_run };
+
+    // The run over all starts.
+    fn run(p: &[u32], t: &[u32], list: &mut [u32]) -> Work {
+        let m = p.len();
+        let n = t.len();
+        // In this order the compiler keeps more of what a start needs in registers (docs/SPEED.md).
+        let shifts = Shifts::from_front(p);
+        let sure = Prepared::new(p).sure;
+        let ready = Readied {
+            p,
+            by: &shifts.by,
+            sure,
+        };
+        let mut s = Standing {
+            start: 0,
+            known: 0,
+            unsure: 0,
+        };
+        let mut total = 0;
+        let mut scan: u64 = 0;
+        let mut shift: u64 = 0;
+        // A turn says where the next start is, so no range gives the starts.
+        while s.start + m <= n {
+            let turn = ready.step(t, s);
+            total = note(list, total, s.start, turn.hit);
+            scan += turn.scan;
+            shift += turn.shift;
+            s = turn.next;
+        }
+        Work {
+            total,
+            scan,
+            shift,
+            steps: 0,
+        }
     }
 }
 
 // Every start at which the pattern meets the text, by KMP.
-pub fn search(k: u32, p: &[u32], t: &[u32], list: &mut [u32]) -> Answer
+pub fn search(k: u32, p: &[u32], t: &[u32], list: &mut [u32]) -> Result<Work, Refusal>
     ensures promise { Searched kmp_run Letter.MAX_K Pattern.MAX_M Text.MAX_N k p.now t.now list.old result list.new }
     ensures scan_bound { length p.now ≤ length t.now → scan_of result ≤ 2 * length t.now - length p.now }
     ensures shift_bound { length p.now ≤ length t.now → shift_of result ≤ (length t.now - length p.now) * (length p.now - 1) }
 {
-    match checked(k, p, t) {
-        Check::Refused(r) => Answer::Refused(r),
-        Check::Passed => Answer::Found(run(p, t, list)),
-    }
+    inputs::rule::search::<Kmp>(k, p, t, list)
 }

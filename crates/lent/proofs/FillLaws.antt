@@ -1,5 +1,5 @@
 -- A loop that fills an array place by place, from a place on. Assumes nothing.
-use mathlib.Core.Path.{◌≡◌, refl, ◌∙◌}
+use mathlib.Core.Path.{◌≡◌, ◌∙◌}
 use mathlib.Core.List.{List}
 use mathlib.Core.Logic.{⊎_elim}
 use Prim.Native.Nat.{ℕ, ◌+◌, ◌≤◌, ◌<◌}
@@ -13,9 +13,6 @@ pub record Filled (from : ℕ) (g : ℕ → ℕ) (C₀ : List ℕ) (j : ℕ) (C 
   pub room : length C ≡ length C₀
   pub done : (h : ℕ) → from ≤ h → h < j → get_or C h 0 ≡ g h
   pub left : (h : ℕ) → j ≤ h → get_or C h 0 ≡ get_or C₀ h 0
-
-pub fill_start : (from : ℕ) (g : ℕ → ℕ) (C : List ℕ) → Filled from g C from C
-fill_start from g C = record { room = refl; done = λ h l k. absurd (omega arith); left = λ h l. refl }
 
 pub fill_on : {from : ℕ} {g : ℕ → ℕ} {C₀ : List ℕ} {j : ℕ} {C : List ℕ} → Filled from g C₀ j C → j < length C₀ → (v : ℕ) → v ≡ g j → Filled from g C₀ (j + 1) (set C j v)
 fill_on {from} {g} {C₀} {j} {C} w l v e =

@@ -1,5 +1,5 @@
 -- Writing what a rule makes of each element over the front of lent memory. Assumes nothing.
-use mathlib.Core.Path.{◌≡◌, refl, ap, ◌∙◌}
+use mathlib.Core.Path.{◌≡◌, ap, ◌∙◌}
 use mathlib.Core.List.{List, [], ◌∷◌, map, map-append}
 use Prim.Native.Nat.{ℕ, ◌+◌, ◌<◌}
 use native.Mathlib.Numerals.{add-one}
@@ -7,17 +7,13 @@ use native.Mathlib.Omega.{arith}
 use lib.ListN.{length, take, get_or, set, length-map}
 use lib.Seq.{take-suc, take-length, length-take-le}
 use Rattle.lent.specs.Over.{over}
-use Rattle.lent.proofs.OverLaws.{over_snoc, length_over}
+use Rattle.lent.proofs.OverLaws.{over_snoc}
 
 -- the memory d once the first i elements of xs were written, each as f makes it
 abbrev pub written : (ℕ → ℕ) → List ℕ → List ℕ → ℕ → List ℕ
 written f xs d i = over (map f (take i xs)) d
 
 module _ (f : ℕ → ℕ) (xs d : List ℕ) where
-  pub written_none : d ≡ written f xs d 0
-  unfolding over
-  written_none = refl
-
   pub written_next : (i : ℕ) → i < length xs → written f xs d (i + 1) ≡ set (written f xs d i) i (f (get_or xs i 0))
   written_next i h =
       let l : length (map f (take i xs)) ≡ i = length-map (take i xs) f ∙ length-take-le i xs (omega arith) in
@@ -28,6 +24,3 @@ module _ (f : ℕ → ℕ) (xs d : List ℕ) where
 
   pub written_all : written f xs d (length xs) ≡ over (map f xs) d
   written_all = ap (λ (ys : List ℕ). over (map f ys) d) (take-length xs)
-
-  pub length_written : (i : ℕ) → length (written f xs d i) ≡ length d
-  length_written i = length_over (map f (take i xs)) d

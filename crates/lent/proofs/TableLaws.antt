@@ -9,7 +9,7 @@ use lib.ListN.{length, get_or, set}
 use lib.Seq.{ext_get_or}
 use Rattle.lent.specs.Over.{over}
 use Rattle.lent.specs.Table.{table_from, table}
-use Rattle.lent.proofs.OverLaws.{over_snoc, length_over}
+use Rattle.lent.proofs.OverLaws.{over_snoc}
 
 module _ (f : ℕ → ℕ) where
   from_length : (a n : ℕ) → length (table_from a n f) ≡ n
@@ -52,14 +52,7 @@ module _ (f : ℕ → ℕ) (d : List ℕ) where
   abbrev pub tabled : ℕ → List ℕ
   tabled i = over (table i f) d
 
-  pub tabled_none : d ≡ tabled 0
-  unfolding table table_from over
-  tabled_none = refl
-
   pub tabled_next : (i : ℕ) → tabled (i + 1) ≡ set (tabled i) i (f i)
   tabled_next i =
       rw (add-one i, table_snoc f i)
       (over_snoc (table i f) (f i) d ∙ ap (λ (j : ℕ). set (over (table i f) d) j (f i)) (length_table f i))
-
-  pub length_tabled : (i : ℕ) → length (tabled i) ≡ length d
-  length_tabled i = length_over (table i f) d

@@ -1,16 +1,13 @@
 -- The lowest set digit, which trailing zeros find, and what is left without it. Assumes nothing.
 use mathlib.Core.Path.{◌≡◌, refl, ap, ◌∙◌, subst}
 use mathlib.Core.Logic.{◌⊎◌, inl, inr}
-use Prim.Native.Nat.{ℕ, zero, suc, ◌-◌, ◌/◌, ◌%◌, ◌^◌, ◌≤◌, ◌<◌}
-use native.Mathlib.Nat.{zero-lt-suc, eq-zero-or-pos, pow-suc, not-suc-le-zero, le_antisymm}
+use Prim.Native.Nat.{ℕ, zero, suc, ◌-◌, ◌/◌, ◌%◌, ◌^◌, ◌<◌}
+use native.Mathlib.Nat.{zero-lt-suc, eq-zero-or-pos, pow-suc, not-suc-le-zero}
 use native.Mathlib.Omega.{arith}
-use borrow.Author.Tests.{leb-true, leb-false}
 use lib.Arith.{lt-one}
-use lib.Bits.{bit_and, and_step, and_le_r}
+use lib.Bits.{bit_and, and_step}
 use lib.Count.{count_trailing_zeros}
-use lib.Dec.{leb}
 use Rattle.letters.specs.Digits.{digit}
-use Rattle.letters.proofs.Truth.{bool_cases}
 use Rattle.letters.proofs.DigitLaws.{digit_and}
 
 -- t is the lowest set digit of x, a number of k digits; the others stay when it is cleared
@@ -20,10 +17,6 @@ pub record Low (k x t : ℕ) : Type 0 where
   pub below : (j : ℕ) → j < t → digit j x ≡ 0
   pub gone : digit t (bit_and x (x - 1)) ≡ 0
   pub stays : (j : ℕ) → (j ≡ t → ⊥) → digit j (bit_and x (x - 1)) ≡ digit j x
-
--- what is left is smaller
-pub rest_less : (x : ℕ) → 0 < x → bit_and x (x - 1) < x
-rest_less x p = let a = and_le_r x (x - 1) in omega arith
 
 low_odd : (k x : ℕ) → x % 2 ≡ 1 → Low (suc k) x 0
 unfolding digit
@@ -77,11 +70,3 @@ low (suc k) x p h = go (λ q. low k (x / 2) q (let e = pow-suc 2 k in omega arit
     go : (0 < x / 2 → Low k (x / 2) (count_trailing_zeros k (x / 2))) → (x % 2 ≡ 0) ⊎ (0 < x % 2) → Low (suc k) x (count_trailing_zeros (suc k) x)
     go ih (inl e) = rw e (low_even k x (count_trailing_zeros k (x / 2)) e p (ih (omega arith)))
     go ih (inr q) = let e : x % 2 ≡ 1 = omega arith in rw e (low_odd k x e)
-
--- it is the same whatever the width
-low_le : {j k x s t : ℕ} → Low j x s → Low k x t → s ≤ t
-low_le {j} {k} {x} {s} {t} a b =
-    bool_cases (leb s t) (λ y. leb-true s t y) (λ n. absurd (let z = a.below t (leb-false s t n) in let w = b.member in omega arith))
-
-pub low_same : {j k x s t : ℕ} → Low j x s → Low k x t → s ≡ t
-low_same a b = le_antisymm (low_le a b) (low_le b a)

@@ -10,10 +10,11 @@ use lib.Bits.{bit_and}
 use lib.Count.{count_trailing_zeros}
 use lib.Dec.{eqb}
 use Rattle.letters.specs.Letters.{member}
-use Rattle.letters.specs.Members.{members_from, members, walked}
+use Rattle.letters.proofs.Truth.{bool_cases}
+use Rattle.letters.specs.Members.{members_from, members}
 use Rattle.letters.proofs.DigitLaws.{digit_zero}
 use Rattle.letters.proofs.LetterLaws.{digit_member, no_member}
-use Rattle.letters.proofs.LowestLaws.{Low, low, low_same, rest_less}
+use Rattle.letters.proofs.LowestLaws.{low}
 
 -- letters with the same members among those from b on
 from_same : (x y b f : ℕ) → ((j : ℕ) → b ≤ j → member j x ≡ member j y) → members_from x b f ≡ members_from y b f
@@ -55,33 +56,19 @@ pub members_none : (k : ℕ) → members k 0 ≡ []
 unfolding members
 members_none k = none_from 0 0 k (λ j. no_member j 0 (digit_zero j))
 
--- A loop over the members of c that has come to s: what the members left make of it is the whole, in each alphabet that holds c
-pub record Walking {S : Type 0} (step : S → ℕ → S) (c : ℕ) (s₀ : S) (left : ℕ) (s : S) : Type 0 where
-  pub within : left ≤ c
-  pub whole : (k : ℕ) → c < 2 ^ k → walked step s (members k left) ≡ walked step s₀ (members k c)
+-- a member among those from a on lies among them
+from_below : (c a f : ℕ) {b : ℕ} {bs : List ℕ} → members_from c a f ≡ b ∷ bs → b < a + f
+unfolding members_from
+from_below c a zero e = cc
+from_below c a (suc f) {b} e =
+    bool_cases (member a c)
+    (λ y. let z : a ≡ b = ap head (rw y at e) in omega arith)
+    (λ n. omega (arith, from_below c (suc a) f (rw n at e)))
+  where
+    head : List ℕ → ℕ
+    head [] = 0
+    head (x ∷ xs) = x
 
-pub walk_start : {S : Type 0} (step : S → ℕ → S) (c : ℕ) (s : S) → Walking step c s c s
-walk_start step c s = record { within = omega arith; whole = λ k l. refl }
-
-module _ {S : Type 0} {step : S → ℕ → S} {c : ℕ} {s₀ : S} {left : ℕ} {s : S} (w : Walking step c s₀ left s) where
-  -- the lowest is taken, and the rest is left
-  module _ (K t : ℕ) (f : c < 2 ^ K) (e : t ≡ count_trailing_zeros K left) (p : 0 < left) where
-    lowest : Low K left t
-    lowest = rw e (low K left p (omega (arith, w.within)))
-
-    pub walk_low : t < K
-    walk_low = lowest.within
-
-    pub walk_on : (rest : ℕ) → rest ≡ bit_and left (left - 1) → Walking step c s₀ rest (step s t)
-    unfolding walked
-    walk_on rest r =
-        record {
-          within = omega (arith, rest_less left p, w.within);
-          whole = λ k l.
-              let u : left < 2 ^ k = omega (arith, w.within) in
-              rw (r, low_same lowest (low k left p u)) (rw (members_walk k left p u) at (w.whole k l));
-        }
-
-  pub walk_end : left ≡ 0 → (k : ℕ) → c < 2 ^ k → s ≡ walked step s₀ (members k c)
-  unfolding walked
-  walk_end z k l = rw (z, members_none k) at (w.whole k l)
+pub next_below : (k c : ℕ) {b : ℕ} {bs : List ℕ} → members k c ≡ b ∷ bs → b < k
+unfolding members
+next_below k c e = omega (arith, from_below c 0 k e)

@@ -2,21 +2,23 @@
 ghost use Rattle.std.specs.Prelude.{◌≡◌};
 ghost use Rattle.letters.specs.Letters.{member, shared, single};
 
-#[derive(Clone, Copy)]
+#[derive(Clone, Copy, Debug, PartialEq, Eq)]
 pub struct Letter {
     pub bits: u32,
+}
+
+// The letter with these bits.
+impl From<u32> for Letter {
+    ghost from_gives = { λ bits c. c.bits ≡ bits };
+
+    fn from(bits: u32) -> Letter {
+        Letter { bits }
+    }
 }
 
 impl Letter {
     // The largest alphabet.
     pub const MAX_K: u32 = 32;
-
-    // The letter with these bits.
-    pub fn of(bits: u32) -> Self
-        ensures { result.bits ≡ bits }
-    {
-        Self { bits }
-    }
 
     // Whether base letter b is a member.
     pub fn has(self, b: u32) -> bool
@@ -29,17 +31,19 @@ impl Letter {
     }
 
     // The letter of the common members.
+    #[tactic(auto, unfolding(crate::specs::Letters::shared))]
     pub fn shared(self, other: Letter) -> Letter
         ensures { result.bits ≡ shared self.bits other.bits }
     {
-        Letter::of(self.bits & other.bits)
+        Letter::from(self.bits & other.bits)
     }
 
     // Whether there is one member, by the count of ones.
+    #[tactic(auto, unfolding(crate::specs::Letters::single))]
     pub fn is_single(self) -> bool
         ensures { result ≡ single self.bits }
     {
-        u32::count_ones(self.bits) == 1
+        self.bits.count_ones() == 1
     }
 }
 
@@ -47,12 +51,12 @@ impl Letter {
 pub fn common(a: u32, b: u32) -> u32
     ensures { result ≡ shared a b }
 {
-    Letter::of(a).shared(Letter::of(b)).bits
+    Letter::from(a).shared(Letter::from(b)).bits
 }
 
 // Whether a letter of a lent string has one member.
 pub fn lone(c: u32) -> bool
     ensures { result ≡ single c }
 {
-    Letter::of(c).is_single()
+    Letter::from(c).is_single()
 }

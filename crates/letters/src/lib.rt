@@ -5,4 +5,3 @@ pub mod letter;
 pub mod limits;
 pub mod members;
 pub mod strings;
-pub mod width;

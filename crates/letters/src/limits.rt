@@ -5,7 +5,7 @@ ghost use Rattle.letters.specs.Sizes.{outside};
 use crate::letter::Letter;
 use crate::strings::{Pattern, Text};
 
-#[derive(Clone, Copy)]
+#[derive(Clone, Copy, Debug, PartialEq, Eq)]
 pub struct Limits {
     pub k: u32,
     pub m: usize,
@@ -24,11 +24,9 @@ pub fn pinned() -> Limits
 }
 
 // Whether x is below the least or above the most.
+#[tactic(auto, unfolding(crate::specs::Sizes::outside))]
 pub fn is_outside(x: usize, least: usize, most: usize) -> bool
     ensures { result ≡ outside least most x }
 {
-    if x < least {
-        return true;
-    }
-    most < x
+    !(least..=most).contains(&x)
 }

@@ -1,5 +1,5 @@
 // A pattern and a text: strings of letters, each with the limit of its length, and whether the entry mark may stand in it.
-#[derive(Clone, Copy)]
+#[derive(Clone, Copy, Debug, PartialEq, Eq)]
 pub struct Pattern {
     pub len: usize,
 }
@@ -12,7 +12,7 @@ impl Pattern {
     pub const MARKS: bool = false;
 }
 
-#[derive(Clone, Copy)]
+#[derive(Clone, Copy, Debug, PartialEq, Eq)]
 pub struct Text {
     pub len: usize,
 }

@@ -10,11 +10,14 @@ use lib.Dec.{eqb, leb, ltb}
 use lib.ListN.{length, get_or, take, drop, length-append, get_or-append}
 use lib.Seq.{take_at, append_snoc, get_or-append_seam, drop-append_seam, drop_at}
 use Rattle.letters.proofs.Truth.{bool_cases, and_true_l, and_true_r}
-use Rattle.notation.specs.Alphabet.{plain, find, Alphabet, fresh, fresh_from, end_at, bytes_then, alphabet_at}
-use Rattle.notation.specs.declared.alphabet.Bytes.{Bytes}
-use Rattle.notation.specs.declared.alphabet.Bytes.TheVariants.{After, Wrong}
+use Rattle.notation.specs.Alphabet.{plain, find, Alphabet, fresh, fresh_from, end_at, bytes_then, wrong_at, alphabet_at}
+use Rattle.notation.specs.declared.alphabet.Wrong.{Wrong}
+use Rattle.std.proofs.Common.{Result, Ok, Err}
 use Rattle.letters.proofs.FirstLaws.{first_append_in, first_append_out}
 use Rattle.notation.proofs.FindLaws.{find_hit, find_same}
+
+pub wrong_same : {A : Type 0} {p q : ℕ} → wrong_at {A = A} p ≡ wrong_at q → p ≡ q
+wrong_same {A} {p} {q} e = let r : ◌≡◌ {A = Wrong} (record { place = p }) (record { place = q }) = cc in ap (λ (w : Wrong). w.place) r
 
 pub record Plain (b : ℕ) : Type 0 where
   pub low : 32 ≤ b
@@ -112,15 +115,15 @@ pub record Lists (before : List ℕ) (k at : ℕ) (s : List ℕ) (e : ℕ) : Typ
   pub right : Alphabet (before ++ bytes)
   pub place : e ≡ at + k
 
-pub fresh_read : (before : List ℕ) (k at : ℕ) (s : List ℕ) (e : ℕ) → Alphabet before → fresh_from before k at s ≡ After e → Lists before k at s e
+pub fresh_read : (before : List ℕ) (k at : ℕ) (s : List ℕ) (e : ℕ) → Alphabet before → fresh_from before k at s ≡ Ok e → Lists before k at s e
 unfolding fresh_from
 fresh_read before zero at s e al q =
     let x : e ≡ at = cc in
     record { bytes = []; rest = s; size = refl; split = refl; right = subst Alphabet (sym (append-nil before)) al; place = omega arith }
-fresh_read before (suc k) at [] e al q = absurd (let z : ◌≡◌ {A = ℕ} 0 1 = cc in omega arith)
+fresh_read before (suc k) at [] e al q = cc
 fresh_read before (suc k) at (b ∷ s) e al q =
     bool_cases (fresh before b)
-    (λ f. let w : fresh_from (before ++ (b ∷ [])) k (suc at) s ≡ After e = rw f at q in
+    (λ f. let w : fresh_from (before ++ (b ∷ [])) k (suc at) s ≡ Ok e = rw f at q in
     let ih = fresh_read (before ++ (b ∷ [])) k (suc at) s e (alphabet_on before b al (is_fresh before b f)) w in
     record {
       bytes = b ∷ ih.bytes;
@@ -130,23 +133,23 @@ fresh_read before (suc k) at (b ∷ s) e al q =
       right = subst Alphabet (append_snoc before b ih.bytes) ih.right;
       place = omega (arith, ih.place);
     })
-    (λ f. let w : Wrong at ≡ After e = rw f at q in absurd (let z : ◌≡◌ {A = ℕ} 0 1 = cc in omega arith))
+    (λ f. let w : wrong_at at ≡ Ok e = rw f at q in cc)
 
-pub fresh_listed : (before A : List ℕ) (at : ℕ) (r : List ℕ) → Alphabet (before ++ A) → fresh_from before (length A) at (A ++ r) ≡ After (at + length A)
+pub fresh_listed : (before A : List ℕ) (at : ℕ) (r : List ℕ) → Alphabet (before ++ A) → fresh_from before (length A) at (A ++ r) ≡ Ok (at + length A)
 unfolding fresh_from
-fresh_listed before [] at r al = ap After (sym (add-zero at))
+fresh_listed before [] at r al = ap Ok (sym (add-zero at))
 fresh_listed before (a ∷ A) at r al =
     rw (fresh_is before a (next_fresh before a A al))
-    (fresh_listed (before ++ (a ∷ [])) A (suc at) r (subst Alphabet (sym (append_snoc before a A)) al) ∙ ap After (suc-add at (length A) ∙ sym (add-suc at (length A))))
+    (fresh_listed (before ++ (a ∷ [])) A (suc at) r (subst Alphabet (sym (append_snoc before a A)) al) ∙ ap Ok (suc-add at (length A) ∙ sym (add-suc at (length A))))
 
 -- bytes, then the LF
-pub end_read : (at : ℕ) (s : List ℕ) (e : ℕ) → end_at at s ≡ After e → (r : List ℕ) × (s ≡ 10 ∷ r) × (e ≡ suc at)
+pub end_read : (at : ℕ) (s : List ℕ) (e : ℕ) → end_at at s ≡ Ok e → (r : List ℕ) × (s ≡ 10 ∷ r) × (e ≡ suc at)
 unfolding end_at
-end_read at [] e q = absurd (let z : ◌≡◌ {A = ℕ} 0 1 = cc in omega arith)
+end_read at [] e q = cc
 end_read at (b ∷ s) e q =
     bool_cases (eqb b 10)
-    (λ f. let w : After (suc at) ≡ After e = rw f at q in (s, ap (λ (x : ℕ). x ∷ s) (eqb-true b 10 f), (cc)))
-    (λ f. let w : Wrong at ≡ After e = rw f at q in absurd (let z : ◌≡◌ {A = ℕ} 0 1 = cc in omega arith))
+    (λ f. let w : Ok (suc at) ≡ Ok e = rw f at q in (s, ap (λ (x : ℕ). x ∷ s) (eqb-true b 10 f), (cc)))
+    (λ f. let w : wrong_at at ≡ Ok e = rw f at q in cc)
 
 -- the alphabet line: its bytes are an alphabet of k
 pub record Listed (k at : ℕ) (s : List ℕ) (e : ℕ) : Type 0 where
@@ -157,13 +160,13 @@ pub record Listed (k at : ℕ) (s : List ℕ) (e : ℕ) : Type 0 where
   pub right : Alphabet bytes
   pub place : e ≡ suc (at + k)
 
-pub alphabet_read : (k at : ℕ) (s : List ℕ) (e : ℕ) → alphabet_at k at s ≡ After e → Listed k at s e
+pub alphabet_read : (k at : ℕ) (s : List ℕ) (e : ℕ) → alphabet_at k at s ≡ Ok e → Listed k at s e
 unfolding alphabet_at
 alphabet_read k at s e q = go (fresh_from [] k at s) refl q
   where
-    go : (r : Bytes) → fresh_from [] k at s ≡ r → bytes_then r (λ f. end_at f (drop k s)) ≡ After e → Listed k at s e
-    go (Wrong p) h w = absurd (let z : ◌≡◌ {A = ℕ} 0 1 = cc in omega arith)
-    go (After f) h w =
+    go : (r : Result ℕ Wrong) → fresh_from [] k at s ≡ r → bytes_then r (λ f. end_at f (drop k s)) ≡ Ok e → Listed k at s e
+    go (Err p) h w = cc
+    go (Ok f) h w =
         let l = fresh_read [] k at s f alphabet_none h in
         let d : drop k s ≡ l.rest = ap (drop k) l.split ∙ drop_at l.bytes l.rest k l.size in
         let t = end_read f (drop k s) e w in
@@ -176,17 +179,17 @@ alphabet_read k at s e q = go (fresh_from [] k at s) refl q
           place = omega (arith, l.place, t.2);
         }
 
-pub alphabet_listed : (A : List ℕ) (at : ℕ) (r : List ℕ) → Alphabet A → alphabet_at (length A) at (A ++ (10 ∷ r)) ≡ After (suc (at + length A))
+pub alphabet_listed : (A : List ℕ) (at : ℕ) (r : List ℕ) → Alphabet A → alphabet_at (length A) at (A ++ (10 ∷ r)) ≡ Ok (suc (at + length A))
 unfolding alphabet_at end_at
 alphabet_listed A at r al = rw (fresh_listed [] A at (10 ∷ r) al, drop-append_seam A (10 ∷ r))
 
 -- where the LF should stand and does not
-pub alphabet_unended : (A : List ℕ) (at b : ℕ) (r : List ℕ) → Alphabet A → eqb b 10 ≡ false → alphabet_at (length A) at (A ++ (b ∷ r)) ≡ Wrong (at + length A)
+pub alphabet_unended : (A : List ℕ) (at b : ℕ) (r : List ℕ) → Alphabet A → eqb b 10 ≡ false → alphabet_at (length A) at (A ++ (b ∷ r)) ≡ wrong_at (at + length A)
 unfolding alphabet_at end_at
 alphabet_unended A at b r al n = rw (fresh_listed [] A at (b ∷ r) al, drop-append_seam A (b ∷ r), n)
 
 -- so many bytes are there to be taken
-pub alphabet_size : (k at : ℕ) (s : List ℕ) (e : ℕ) → alphabet_at k at s ≡ After e → length (take k s) ≡ k
+pub alphabet_size : (k at : ℕ) (s : List ℕ) (e : ℕ) → alphabet_at k at s ≡ Ok e → length (take k s) ≡ k
 alphabet_size k at s e q =
     let l = alphabet_read k at s e q in
     ap length (ap (take k) l.split ∙ take_at l.bytes (10 ∷ l.rest) k l.size) ∙ l.size

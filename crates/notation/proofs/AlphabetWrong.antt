@@ -10,13 +10,13 @@ use lib.ListN.{length, get_or, take, drop, length-append}
 use lib.Seq.{append_snoc, take_at, drop_at, take-suc, get_or-drop}
 use Rattle.letters.specs.First.{first_with}
 use Rattle.letters.proofs.Truth.{bool_cases}
-use Rattle.notation.specs.Alphabet.{plain, Alphabet, fresh, fresh_from, end_at, bytes_then, alphabet_at}
+use Rattle.notation.specs.Alphabet.{plain, Alphabet, fresh, fresh_from, end_at, bytes_then, wrong_at, alphabet_at}
 use Rattle.notation.specs.Spelling.{AlphabetLine}
 use Rattle.notation.specs.Wrong.{FirstWrong}
-use Rattle.notation.specs.declared.alphabet.Bytes.{Bytes}
-use Rattle.notation.specs.declared.alphabet.Bytes.TheVariants.{After, Wrong}
+use Rattle.notation.specs.declared.alphabet.Wrong.{Wrong}
+use Rattle.std.proofs.Common.{Result, Ok, Err}
 use Rattle.notation.proofs.FindLaws.{find_snoc}
-use Rattle.notation.proofs.AlphabetLaws.{Fresh, is_fresh, alphabet_on, alphabet_none, fresh_read, alphabet_listed, alphabet_unended}
+use Rattle.notation.proofs.AlphabetLaws.{wrong_same, Fresh, is_fresh, alphabet_on, alphabet_none, fresh_read, alphabet_listed, alphabet_unended}
 
 -- how many of the n bytes from b on are fresh
 free : List ℕ → ℕ → ℕ → ℕ
@@ -99,18 +99,18 @@ record Stuck (before : List ℕ) (k at : ℕ) (s : List ℕ) (q : ℕ) : Type 0 
   size : length bytes ≡ k
   right : Alphabet (before ++ bytes)
   front : take far s ++ rest ≡ bytes
-  refused : far < length s → (v : List ℕ) → fresh_from before k at (take (suc far) s ++ v) ≡ Wrong q
+  refused : far < length s → (v : List ℕ) → fresh_from before k at (take (suc far) s ++ v) ≡ wrong_at q
 
-here : (before : List ℕ) (k at : ℕ) (s : List ℕ) (q : ℕ) → Grown before k → q ≡ at → (0 < length s → (v : List ℕ) → fresh_from before k at (take 1 s ++ v) ≡ Wrong q) → Stuck before k at s q
+here : (before : List ℕ) (k at : ℕ) (s : List ℕ) (q : ℕ) → Grown before k → q ≡ at → (0 < length s → (v : List ℕ) → fresh_from before k at (take 1 s ++ v) ≡ wrong_at q) → Stuck before k at s q
 here before k at s q g e f = record { far = 0; place = omega arith; within = zero-le; rest = g.bytes; bytes = g.bytes; size = g.size; right = g.right; front = refl; refused = f }
 
-stuck : (before : List ℕ) (k at : ℕ) (s : List ℕ) (q : ℕ) → Alphabet before → Many before → length before + k ≤ 91 → fresh_from before k at s ≡ Wrong q → Stuck before k at s q
+stuck : (before : List ℕ) (k at : ℕ) (s : List ℕ) (q : ℕ) → Alphabet before → Many before → length before + k ≤ 91 → fresh_from before k at s ≡ wrong_at q → Stuck before k at s q
 unfolding fresh_from
-stuck before zero at s q al m h e = absurd (let z : ◌≡◌ {A = ℕ} 0 1 = cc in omega arith)
-stuck before (suc k) at [] q al m h e = here before (suc k) at [] q (grow (suc k) before al m h) (cc) (λ l. absurd (omega arith))
+stuck before zero at s q al m h e = cc
+stuck before (suc k) at [] q al m h e = here before (suc k) at [] q (grow (suc k) before al m h) (sym (wrong_same e)) (λ l. absurd (omega arith))
 stuck before (suc k) at (b ∷ s) q al m h e =
     bool_cases (fresh before b)
-    (λ f. let w : fresh_from (before ++ (b ∷ [])) k (suc at) s ≡ Wrong q = rw f at e in
+    (λ f. let w : fresh_from (before ++ (b ∷ [])) k (suc at) s ≡ wrong_at q = rw f at e in
     let ih = stuck (before ++ (b ∷ [])) k (suc at) s q (alphabet_on before b al (is_fresh before b f)) (many_on before b m) (omega (arith, length-append before (b ∷ []))) w in
     record {
       far = suc ih.far;
@@ -123,14 +123,14 @@ stuck before (suc k) at (b ∷ s) q al m h e =
       front = ap (λ (xs : List ℕ). b ∷ xs) ih.front;
       refused = λ l v. rw f (ih.refused (omega arith) v);
     })
-    (λ f. let w : Wrong at ≡ Wrong q = rw f at e in here before (suc k) at (b ∷ s) q (grow (suc k) before al m h) (cc) (λ l v. rw f w))
+    (λ f. let w : wrong_at at ≡ wrong_at q = rw f at e in here before (suc k) at (b ∷ s) q (grow (suc k) before al m h) (sym (wrong_same w)) (λ l v. rw f w))
 
 -- a right line is not refused
-not_both : (k at : ℕ) (w : List ℕ) (q : ℕ) → AlphabetLine k w → alphabet_at k at w ≡ Wrong q → ⊥
+not_both : (k at : ℕ) (w : List ℕ) (q : ℕ) → AlphabetLine k w → alphabet_at k at w ≡ wrong_at q → ⊥
 not_both k at w q r e =
-    let a : alphabet_at k at w ≡ After (suc (at + length r.bytes))
+    let a : alphabet_at k at w ≡ Ok (suc (at + length r.bytes))
     = ap₂ (λ (x : ℕ) (ys : List ℕ). alphabet_at x at ys) (sym r.size) r.listed ∙ alphabet_listed r.bytes at [] r.right in
-    let z : ◌≡◌ {A = ℕ} 0 1 = cc in omega arith
+    cc
 
 -- the bytes are right, and the LF is missing
 record Unended (k at : ℕ) (s : List ℕ) (q : ℕ) : Type 0 where
@@ -140,16 +140,16 @@ record Unended (k at : ℕ) (s : List ℕ) (q : ℕ) : Type 0 where
   size : length bytes ≡ k
   right : Alphabet bytes
   front : take k s ≡ bytes
-  refused : k < length s → (v : List ℕ) → alphabet_at k at (take (suc k) s ++ v) ≡ Wrong q
+  refused : k < length s → (v : List ℕ) → alphabet_at k at (take (suc k) s ++ v) ≡ wrong_at q
 
-end_wrong : (at : ℕ) (s : List ℕ) (q : ℕ) → end_at at s ≡ Wrong q → (q ≡ at) × (0 < length s → eqb (get_or s 0 0) 10 ≡ false)
+end_wrong : (at : ℕ) (s : List ℕ) (q : ℕ) → end_at at s ≡ wrong_at q → (q ≡ at) × (0 < length s → eqb (get_or s 0 0) 10 ≡ false)
 unfolding end_at
-end_wrong at [] q e = ((cc), λ l. absurd (omega arith))
+end_wrong at [] q e = (sym (wrong_same e), λ l. absurd (omega arith))
 end_wrong at (b ∷ s) q e =
-    bool_cases (eqb b 10) (λ f. let w : After (suc at) ≡ Wrong q = rw f at e in absurd (let z : ◌≡◌ {A = ℕ} 0 1 = cc in omega arith))
-    (λ f. let w : Wrong at ≡ Wrong q = rw f at e in ((cc), λ l. f))
+    bool_cases (eqb b 10) (λ f. let w : Ok (suc at) ≡ wrong_at q = rw f at e in cc)
+    (λ f. let w : wrong_at at ≡ wrong_at q = rw f at e in (sym (wrong_same w), λ l. f))
 
-unended : (k at : ℕ) (s : List ℕ) (f q : ℕ) → fresh_from [] k at s ≡ After f → end_at f (drop k s) ≡ Wrong q → Unended k at s q
+unended : (k at : ℕ) (s : List ℕ) (f q : ℕ) → fresh_from [] k at s ≡ Ok f → end_at f (drop k s) ≡ wrong_at q → Unended k at s q
 unended k at s f q h e =
     let l = fresh_read [] k at s f alphabet_none h in
     let B = l.bytes in
@@ -169,16 +169,16 @@ unended k at s f q h e =
           let x : take (suc k) s ++ v ≡ B ++ (b ∷ v) = ap (λ (xs : List ℕ). xs ++ v) (take-suc s k 0 i ∙ ap (λ (xs : List ℕ). xs ++ (b ∷ [])) t) ∙ append_snoc B b v in
           let y : get_or (drop k s) 0 0 ≡ b = get_or-drop k s 0 0 ∙ ap (λ (j : ℕ). get_or s j 0) (let z : k + 0 ≡ k = omega arith in z) in
           let u : eqb b 10 ≡ false = ap (λ (z : ℕ). eqb z 10) (sym y) ∙ w.1 (omega (arith, ap length d, l.size)) in
-          ap (alphabet_at k at) x ∙ ap (λ (j : ℕ). alphabet_at j at (B ++ (b ∷ v))) (sym l.size) ∙ alphabet_unended B at b v l.right u ∙ ap Wrong (let z : at + length B ≡ q = omega (arith, l.size) in z);
+          ap (alphabet_at k at) x ∙ ap (λ (j : ℕ). alphabet_at j at (B ++ (b ∷ v))) (sym l.size) ∙ alphabet_unended B at b v l.right u ∙ ap wrong_at (let z : at + length B ≡ q = omega (arith, l.size) in z);
     }
 
 -- a refusal names the first wrong byte
-pub alphabet_first_wrong : (k at : ℕ) (s : List ℕ) (q : ℕ) → k ≤ 91 → alphabet_at k at s ≡ Wrong q → (far : ℕ) × (q ≡ at + far) × FirstWrong (AlphabetLine k) s far
+pub alphabet_first_wrong : (k at : ℕ) (s : List ℕ) (q : ℕ) → k ≤ 91 → alphabet_at k at s ≡ wrong_at q → (far : ℕ) × (q ≡ at + far) × FirstWrong (AlphabetLine k) s far
 unfolding alphabet_at
 alphabet_first_wrong k at s q h e = go (fresh_from [] k at s) refl e
   where
-    go : (r : Bytes) → fresh_from [] k at s ≡ r → bytes_then r (λ f. end_at f (drop k s)) ≡ Wrong q → (far : ℕ) × (q ≡ at + far) × FirstWrong (AlphabetLine k) s far
-    go (Wrong p) i w =
+    go : (r : Result ℕ Wrong) → fresh_from [] k at s ≡ r → bytes_then r (λ f. end_at f (drop k s)) ≡ wrong_at q → (far : ℕ) × (q ≡ at + far) × FirstWrong (AlphabetLine k) s far
+    go (Err p) i w =
         let u = stuck [] k at s q alphabet_none many_none (omega arith) (i ∙ w) in (
           u.far,
           u.place,
@@ -191,7 +191,7 @@ alphabet_first_wrong k at s q h e = go (fresh_from [] k at s) refl e
             wrong = λ l g. not_both k at (take (suc u.far) s ++ g.rest) q g.right (rw (u.refused l g.rest));
           },
         )
-    go (After f) i w =
+    go (Ok f) i w =
         let u = unended k at s f q i w in (
           k,
           u.far,

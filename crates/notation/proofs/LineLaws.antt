@@ -39,11 +39,11 @@ module _ (marks : Bool) (A : List ℕ) where
   -- what is read was spelled so
   sound : (s : List ℕ) (σ : State) (at : ℕ) (cs : List ℕ) (e : ℕ) → Ok A σ → read_from marks A σ at s ≡ got cs e → Was (pre A σ) at s cs e
   unfolding read_from line
-  sound [] σ at cs e o q = absurd (let z : ◌≡◌ {A = ℕ} 0 1 = cc in omega arith)
+  sound [] σ at cs e o q = cc
   sound (b ∷ s) σ at cs e o q = go (byte_move marks A σ b) refl (sense marks A σ b o) (λ τ ds ok r. sound s τ (suc at) ds e ok r)
     where
       go : (m : Move) → byte_move marks A σ b ≡ m → Sense marks A σ b m → ((τ : State) (ds : List ℕ) → Ok A τ → read_from marks A τ (suc at) s ≡ got ds e → Was (pre A τ) (suc at) s ds e) → Was (pre A σ) at (b ∷ s) cs e
-      go stop h z ih = absurd (let w : wrong at ≡ got cs e = sym (read_on marks A σ at b s stop h) ∙ q in let z : ◌≡◌ {A = ℕ} 0 1 = cc in omega arith)
+      go stop h z ih = absurd (let w : wrong at ≡ got cs e = sym (read_on marks A σ at b s stop h) ∙ q in cc)
       go end h z ih =
           let w : got [] (suc at) ≡ got cs e = sym (read_on marks A σ at b s end h) ∙ q in
           let nil : cs ≡ [] = cc in

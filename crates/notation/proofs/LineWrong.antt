@@ -69,7 +69,7 @@ module _ (marks : Bool) (A : List ℕ) where
       go stop h z ih =
           let w : wrong at ≡ wrong q = sym (read_on marks A σ at b s stop h) ∙ e in
           stuck_here σ at (b ∷ s) q o (cc) (λ l v. read_on marks A σ at b v stop h ∙ w)
-      go end h z ih = absurd (let w : got [] (suc at) ≡ wrong q = sym (read_on marks A σ at b s end h) ∙ e in let z : ◌≡◌ {A = ℕ} 0 1 = cc in omega arith)
+      go end h z ih = absurd (let w : got [] (suc at) ≡ wrong q = sym (read_on marks A σ at b s end h) ∙ e in cc)
       go (to τ) h z ih = stuck_to σ τ b at s q h z.1 (ih τ z.0 (sym (read_on marks A σ at b s (to τ) h) ∙ e))
       go (letter c) h z ih = stuck_letter σ b at s q c h z.0 z.1 (ih out tt (more_wrong c _ q (sym (read_on marks A σ at b s (letter c) h) ∙ e)))
 
@@ -87,6 +87,6 @@ module _ (marks : Bool) (A : List ℕ) where
             wrong = λ l g. let r = g.right in
                 let a : got r.letters (at + length (line A r.letters)) ≡ wrong q
                 = sym (line_read marks A al r.letters at [] r.proper) ∙ ap (read_from marks A out at) (append-nil (line A r.letters) ∙ sym r.spelled) ∙ w.refused l g.rest in
-                let z : ◌≡◌ {A = ℕ} 0 1 = cc in omega arith;
+                cc;
           },
         )

@@ -9,17 +9,15 @@ use borrow.Author.Tests.{eq-eqb, ne_eqb, le-leb, lt-leb, lt-ltb, le-ltb, eqb-tru
 use lib.Dec.{eqb, leb, ltb}
 use lib.ListN.{length, drop, get_or, length-drop}
 use lib.Seq.{drop-cons, drop-length}
-use Rattle.notation.specs.Alphabet.{find}
+use Rattle.notation.specs.Alphabet.{find, wrong_at}
 use Rattle.notation.specs.Reader.{State, out, inside, Move, stop, end, to, letter, Inner, wrong_byte, closed, on, inner, byte_move, Read, got, wrong, more, follow, read_from}
 use Rattle.notation.specs.Answers.{leave, bracket_from, one_of, one_by, one_at}
-use Rattle.notation.specs.declared.lines.Bracket.{Bracket}
-use Rattle.notation.specs.declared.lines.Bracket.TheVariants.{After, Wrong as BracketWrong}
-use Rattle.notation.specs.declared.lines.One.{One}
-use Rattle.notation.specs.declared.lines.One.TheVariants.{Letter, End, Wrong}
+use Rattle.notation.specs.declared.alphabet.Wrong.{Wrong}
+use Rattle.std.proofs.Common.{Option, Some, None, Result, Ok, Err}
 use Rattle.notation.proofs.BracketLaws.{bracket_end, bracket_by}
 use Rattle.letters.proofs.Truth.{bool_cases}
 
-pub one_end : (marks : Bool) (A s : List ℕ) (at : ℕ) → at ≡ length s → one_at marks A at (drop at s) ≡ Wrong at
+pub one_end : (marks : Bool) (A s : List ℕ) (at : ℕ) → at ≡ length s → one_at marks A at (drop at s) ≡ wrong_at at
 unfolding one_at
 one_end marks A s at e = ap (λ (i : ℕ). one_at marks A at (drop i s)) e ∙ rw (drop-length s)
 
@@ -28,9 +26,9 @@ module _ (marks : Bool) (A s : List ℕ) (at : ℕ) (h : at < length s) where
   unfolding one_at
   one_by_lem m e = rw (drop-cons s at 0 h, e)
 
-  pub one_lf : get_or s at 0 ≡ 10 → End (at + 1) ≡ one_at marks A at (drop at s)
+  pub one_lf : get_or s at 0 ≡ 10 → Ok (None, at + 1) ≡ one_at marks A at (drop at s)
   unfolding byte_move
-  one_lf e = ap End (add-one at) ∙ sym (one_by_lem end (rw (eq-eqb (get_or s at 0) 10 e)))
+  one_lf e = ap (λ (i : ℕ). Ok (None, i)) (add-one at) ∙ sym (one_by_lem end (rw (eq-eqb (get_or s at 0) 10 e)))
 
 -- the byte at a place does not end the line, and has the number j
 pub record Looked (A s : List ℕ) (at j : ℕ) : Type 0 where
@@ -51,17 +49,17 @@ module _ (marks : Bool) {A s : List ℕ} {at j : ℕ} (l : Looked A s at j) wher
   unfolding byte_move
   one_tested m e = sym (one_by_lem marks A s at l.within m (rw (ne_eqb (get_or s at 0) 10 l.on, ← l.number) e))
 
-  one_letter : (c : ℕ) → tested ≡ letter c → Letter c (at + 1) ≡ one_at marks A at (drop at s)
-  one_letter c e = ap (Letter c) (add-one at) ∙ one_tested (letter c) e
+  one_letter : (c : ℕ) → tested ≡ letter c → Ok (Some c, at + 1) ≡ one_at marks A at (drop at s)
+  one_letter c e = ap (λ (i : ℕ). Ok (Some c, i)) (add-one at) ∙ one_tested (letter c) e
 
-  pub one_single : j < length A → Letter (2 ^ j) (at + 1) ≡ one_at marks A at (drop at s)
+  pub one_single : j < length A → Ok (Some (2 ^ j), at + 1) ≡ one_at marks A at (drop at s)
   one_single h = one_letter (2 ^ j) (rw (lt-ltb j (length A) h))
 
   module _ (g : length A ≤ j) where
-    pub one_star : get_or s at 0 ≡ 42 → 2 ≤ length A → Letter (2 ^ length A - 1) (at + 1) ≡ one_at marks A at (drop at s)
+    pub one_star : get_or s at 0 ≡ 42 → 2 ≤ length A → Ok (Some (2 ^ length A - 1), at + 1) ≡ one_at marks A at (drop at s)
     one_star e h = one_letter (2 ^ length A - 1) (rw (le-ltb j (length A) g, eq-eqb (get_or s at 0) 42 e, le-leb 2 (length A) h))
 
-    pub one_star_few : get_or s at 0 ≡ 42 → length A < 2 → Wrong at ≡ one_at marks A at (drop at s)
+    pub one_star_few : get_or s at 0 ≡ 42 → length A < 2 → wrong_at at ≡ one_at marks A at (drop at s)
     one_star_few e h =
         one_tested stop (rw (le-ltb j (length A) g, eq-eqb (get_or s at 0) 42 e, lt-leb 2 (length A) h, ne_eqb (get_or s at 0) 91 (λ f. omega arith), ne_eqb (get_or s at 0) 124 (λ f. omega arith)))
 
@@ -71,19 +69,19 @@ module _ (marks : Bool) {A s : List ℕ} {at j : ℕ} (l : Looked A s at j) wher
           ap (λ (i : ℕ). one_of (bracket_from A 0 0 0 i (drop i s))) (add-one at)
           ∙ one_tested (to (inside 0 0 0)) (rw (le-ltb j (length A) g, ne_eqb (get_or s at 0) 42 n, eq-eqb (get_or s at 0) 91 e, le-leb 3 (length A) h))
 
-      pub one_few : get_or s at 0 ≡ 91 → length A < 3 → Wrong at ≡ one_at marks A at (drop at s)
+      pub one_few : get_or s at 0 ≡ 91 → length A < 3 → wrong_at at ≡ one_at marks A at (drop at s)
       one_few e h =
           one_tested stop
           (rw (le-ltb j (length A) g, ne_eqb (get_or s at 0) 42 n, eq-eqb (get_or s at 0) 91 e, lt-leb 3 (length A) h, ne_eqb (get_or s at 0) 124 (λ f. omega arith)))
 
       module _ (o : get_or s at 0 ≡ 91 → ⊥) where
-        pub one_mark : get_or s at 0 ≡ 124 → marks ≡ true → Letter 0 (at + 1) ≡ one_at marks A at (drop at s)
+        pub one_mark : get_or s at 0 ≡ 124 → marks ≡ true → Ok (Some 0, at + 1) ≡ one_at marks A at (drop at s)
         one_mark e m = one_letter 0 (rw (le-ltb j (length A) g, ne_eqb (get_or s at 0) 42 n, ne_eqb (get_or s at 0) 91 o, eq-eqb (get_or s at 0) 124 e, m))
 
-        pub one_no_mark : get_or s at 0 ≡ 124 → marks ≡ false → Wrong at ≡ one_at marks A at (drop at s)
+        pub one_no_mark : get_or s at 0 ≡ 124 → marks ≡ false → wrong_at at ≡ one_at marks A at (drop at s)
         one_no_mark e m = one_tested stop (rw (le-ltb j (length A) g, ne_eqb (get_or s at 0) 42 n, ne_eqb (get_or s at 0) 91 o, eq-eqb (get_or s at 0) 124 e, m))
 
-        pub one_none : (get_or s at 0 ≡ 124 → ⊥) → Wrong at ≡ one_at marks A at (drop at s)
+        pub one_none : (get_or s at 0 ≡ 124 → ⊥) → wrong_at at ≡ one_at marks A at (drop at s)
         one_none e = one_tested stop (rw (le-ltb j (length A) g, ne_eqb (get_or s at 0) 42 n, ne_eqb (get_or s at 0) 91 o, ne_eqb (get_or s at 0) 124 e))
 
 -- a byte between letters that opens something opens a bracket
@@ -99,18 +97,18 @@ opens marks A b τ q =
 
 -- a line goes on after a letter
 module _ (marks : Bool) (A s : List ℕ) where
-  abbrev pub by_bracket : Bracket → Read
-  by_bracket (After c e) = more c (read_from marks A out e (drop e s))
-  by_bracket (BracketWrong q) = wrong q
+  abbrev pub by_bracket : Result (ℕ × ℕ) Wrong → Read
+  by_bracket (Ok (c, e)) = more c (read_from marks A out e (drop e s))
+  by_bracket (Err w) = wrong w.place
 
-  abbrev pub by_one : One → Read
-  by_one (Letter c e) = more c (read_from marks A out e (drop e s))
-  by_one (End e) = got [] e
-  by_one (Wrong q) = wrong q
+  abbrev pub by_one : Result (Option ℕ × ℕ) Wrong → Read
+  by_one (Ok (Some c, e)) = more c (read_from marks A out e (drop e s))
+  by_one (Ok (None, e)) = got [] e
+  by_one (Err w) = wrong w.place
 
-  by_bracket_lem : (r : Bracket) → by_one (one_of r) ≡ by_bracket r
-  by_bracket_lem (After c e) = refl
-  by_bracket_lem (BracketWrong q) = refl
+  by_bracket_lem : (r : Result (ℕ × ℕ) Wrong) → by_one (one_of r) ≡ by_bracket r
+  by_bracket_lem (Ok (c, e)) = refl
+  by_bracket_lem (Err w) = refl
 
   read_at : (σ : State) (at : ℕ) → at < length s → read_from marks A σ at (drop at s) ≡ follow (byte_move marks A σ (get_or s at 0)) at (λ τ. read_from marks A τ (suc at) (drop (suc at) s))
   unfolding read_from
@@ -152,22 +150,21 @@ module _ (marks : Bool) (A s : List ℕ) where
           ∙ ap by_one (sym (one_by_lem marks A s at h (to τ) q)))
 
 -- a bracket's closer lies after it, and within the sheet
-abbrev AfterIn : ℕ → ℕ → Bracket → Type 0
-AfterIn at n (After c e) = (at < e) × (e ≤ n)
-AfterIn at n (BracketWrong q) = Unit {0}
+abbrev AfterIn : ℕ → ℕ → Result (ℕ × ℕ) Wrong → Type 0
+AfterIn at n (Ok (c, e)) = (at < e) × (e ≤ n)
+AfterIn at n (Err w) = Unit {0}
 
-abbrev pub OneIn : ℕ → ℕ → One → Type 0
-OneIn at n (Letter c e) = (at < e) × (e ≤ n)
-OneIn at n (End e) = (at < e) × (e ≤ n)
-OneIn at n (Wrong q) = Unit {0}
+abbrev pub OneIn : ℕ → ℕ → Result (Option ℕ × ℕ) Wrong → Type 0
+OneIn at n (Ok p) = (at < p.1) × (p.1 ≤ n)
+OneIn at n (Err w) = Unit {0}
 
-after_weaken : (at n : ℕ) (r : Bracket) → AfterIn (suc at) n r → AfterIn at n r
-after_weaken at n (After c e) (l, m) = (omega arith, m)
-after_weaken at n (BracketWrong q) u = tt
+after_weaken : (at n : ℕ) (r : Result (ℕ × ℕ) Wrong) → AfterIn (suc at) n r → AfterIn at n r
+after_weaken at n (Ok (c, e)) (l, m) = (omega arith, m)
+after_weaken at n (Err w) u = tt
 
-one_in_of : (at n : ℕ) (r : Bracket) → AfterIn at n r → OneIn at n (one_of r)
-one_in_of at n (After c e) u = u
-one_in_of at n (BracketWrong q) u = tt
+one_in_of : (at n : ℕ) (r : Result (ℕ × ℕ) Wrong) → AfterIn at n r → OneIn at n (one_of r)
+one_in_of at n (Ok (c, e)) u = u
+one_in_of at n (Err w) u = tt
 
 bracket_in : (A s : List ℕ) (S t n at : ℕ) → AfterIn at (at + length s) (bracket_from A S t n at s)
 unfolding bracket_from

@@ -13,21 +13,21 @@ read_on marks A σ at b s m e = rw e
 
 pub more_got : (c : ℕ) (r : Read) (cs : List ℕ) (e : ℕ) → more c r ≡ got cs e → (ds : List ℕ) × (r ≡ got ds e) × (cs ≡ c ∷ ds)
 more_got c (got ds f) cs e q = (ds, (cc), (cc))
-more_got c (wrong f) cs e q = absurd (let z : ◌≡◌ {A = ℕ} 0 1 = cc in omega arith)
+more_got c (wrong f) cs e q = cc
 
 pub more_wrong : (c : ℕ) (r : Read) (q : ℕ) → more c r ≡ wrong q → r ≡ wrong q
-more_wrong c (got ds f) q e = absurd (let z : ◌≡◌ {A = ℕ} 0 1 = cc in omega arith)
+more_wrong c (got ds f) q e = cc
 more_wrong c (wrong f) q e = e
 
 -- a line that is read has a byte for each letter and one more, and ends within the sheet
 pub read_in : (marks : Bool) (A s : List ℕ) (σ : State) (at : ℕ) (cs : List ℕ) (e : ℕ) → read_from marks A σ at s ≡ got cs e → (at + length cs + 1 ≤ e) × (e ≤ at + length s)
 unfolding read_from
-read_in marks A [] σ at cs e q = absurd (let z : ◌≡◌ {A = ℕ} 0 1 = cc in omega arith)
+read_in marks A [] σ at cs e q = cc
 read_in marks A (b ∷ s) σ at cs e q = go (byte_move marks A σ b) q (λ τ ds r. read_in marks A s τ (suc at) ds e r)
   where
     go : (m : Move) → follow m at (λ τ. read_from marks A τ (suc at) s) ≡ got cs e
         → ((τ : State) (ds : List ℕ) → read_from marks A τ (suc at) s ≡ got ds e → (suc at + length ds + 1 ≤ e) × (e ≤ suc at + length s)) → (at + length cs + 1 ≤ e) × (e ≤ at + suc (length s))
-    go stop w ih = absurd (let z : ◌≡◌ {A = ℕ} 0 1 = cc in omega arith)
+    go stop w ih = cc
     go end w ih = let x : e ≡ suc at = cc in let y : [] ≡ cs = cc in (rw (← y) (omega arith), omega arith)
     go (to τ) w ih = let i = ih τ cs w in (omega arith, omega arith)
     go (letter c) w ih =

@@ -7,17 +7,17 @@ use Prim.Native.Nat.{ℕ, zero, suc, ◌+◌, ◌-◌, ◌^◌, ◌≤◌, ◌<�
 use native.Mathlib.Nat.{eq-or-lt_of_le, le_of_suc-le-suc, le_refl}
 use native.Mathlib.Numerals.{add-one}
 use native.Mathlib.Omega.{arith}
-use borrow.Author.Tests.{le-leb, ltb-true, ltb-false, not-true, not-false}
+use borrow.Author.Tests.{le-leb, ltb-true, ltb-false}
 use lib.Bits.{bit_or}
 use lib.Dec.{leb, ltb}
 use lib.ListN.{length, get_or, get_or-eq_default}
+use Rattle.std.specs.List.{prefix_len}
+use Rattle.std.proofs.lemmas.List.Sums.{prefix_len_passes, prefix_len_stops}
 use Rattle.letters.specs.Digits.{digit}
-use Rattle.letters.specs.First.{first_with}
 use Rattle.letters.specs.Letters.{member, single}
 use Rattle.letters.specs.Sizes.{SizedPattern}
 use Rattle.letters.proofs.Truth.{bool_cases, both_ways}
 use Rattle.letters.proofs.DigitLaws.{digit_zero, digit_lt, digit_or}
-use Rattle.letters.proofs.FirstLaws.{first_before, first_has}
 use Rattle.letters.proofs.LetterLaws.{member_digit, digit_member}
 use Rattle.lent.proofs.TableLaws.{at_table}
 use Rattle.hits.specs.Singles.{all_single}
@@ -26,7 +26,7 @@ use Rattle.shifts.specs.Least.{least}
 use Rattle.hits.specs.Hits.{met}
 use Rattle.shifts.specs.Shift.{covers, self_fit}
 use Rattle.shifts.proofs.LeastLaws.{least_room}
-use Rattle.pattern.specs.Tables.{not_single, sure_prefix, mask_in, mask_table, shift_table, front_shifts, end_shifts, MaskTable, FrontShifts, EndShifts}
+use Rattle.pattern.specs.Tables.{sure_prefix, mask_in, mask_table, shift_table, front_shifts, end_shifts, MaskTable, FrontShifts, EndShifts}
 use Rattle.pattern.proofs.PowerLaws.{power_self, power_other}
 
 -- the masks, letter by letter and digit by digit
@@ -109,14 +109,14 @@ module _ (P : List ℕ) (k : ℕ) (e : k ≡ sure_prefix P) where
   before zero l = singles_none P 0
   before (suc h) l =
       let z : 0 + h ≡ h = omega arith in
-      rw (← add-one h) (singles_more P 0 h (before h (omega arith)) (rw z (not-false _ (first_before not_single P h (omega arith)))))
+      rw (← add-one h) (singles_more P 0 h (before h (omega arith)) (rw z (prefix_len_passes single P h 0 (omega arith))))
 
   pub sure_at : (h : ℕ) → h ≤ length P → all_single P 0 h ≡ leb h k
   unfolding sure_prefix
   sure_at = singles_upto P 0 k (length P) (before k (le_refl k)) (λ l. stop (omega arith))
     where
-      stop : first_with not_single P < length P → single (get_or P (0 + k) 0) ≡ false
-      stop l = let z : 0 + k ≡ first_with not_single P = omega arith in rw z (not-true _ (first_has not_single P l))
+      stop : prefix_len single P < length P → single (get_or P (0 + k) 0) ≡ false
+      stop l = let z : 0 + k ≡ prefix_len single P = omega arith in rw z (prefix_len_stops single P 0 l)
 
   pub all_sure : all_single P 0 (length P) ≡ leb (length P) k
   all_sure = sure_at (length P) (le_refl (length P))

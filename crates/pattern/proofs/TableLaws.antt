@@ -23,6 +23,21 @@ set_at s k l here other = ⊎_elim here other (eq-or-lt_of_le (below l))
     below : k < s + 1 → k ≤ s
     below l = omega arith
 
+-- a table of n entries, of which those from 1 to before s stand in Q to their index
+pub record Told (n : ℕ) (Q : ℕ → ℕ → Type 0) (tab : List ℕ) (s : ℕ) : Type 0 where
+  pub room : length tab ≡ n
+  pub told : (h : ℕ) → 0 < h → h < s → Q h (get_or tab h 0)
+
+pub told_on : {n : ℕ} {Q : ℕ → ℕ → Type 0} {tab : List ℕ} {s v : ℕ} → Told n Q tab s → s < n → Q s v → Told n Q (set tab s v) (s + 1)
+told_on {n} {Q} {tab} {s} {v} w l here =
+    record {
+      room = length-set tab s v ∙ w.room;
+      told = λ h a b.
+          set_at s h b
+          (λ e. rw (e, get_or-set_same tab s v 0 (omega (arith, w.room))) here)
+          (λ k. rw (get_or-set_other tab s h v 0 (λ z. omega arith)) (w.told h a k));
+    }
+
 abbrev pub enough : List ℕ → ℕ → ℕ → Bool
 enough far h x = leb h (get_or far x 0)
 

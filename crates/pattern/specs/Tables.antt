@@ -9,21 +9,17 @@
 --   MaskTable K P rows  place j of row b has the digit that P's letter j has at b
 --   FrontShifts P tab   tab has the least shifts of P's beginnings
 --   EndShifts P tab     and of its ends
-use Rattle.std.specs.Prelude.{ℕ, zero, suc, ◌+◌, ◌-◌, ◌^◌, ◌≤◌, ◌<◌, ◌≡◌, Bool, cond, not, List, leb, length, get_or}
+use Rattle.std.specs.Prelude.{ℕ, zero, suc, ◌+◌, ◌-◌, ◌^◌, ◌≤◌, ◌<◌, ◌≡◌, Bool, cond, List, leb, length, get_or}
 use Rattle.std.specs.Int.Bits.{bit_or}
+use Rattle.std.specs.List.{prefix_len}
 use Rattle.letters.specs.Digits.{digit}
-use Rattle.letters.specs.First.{first_with}
 use Rattle.letters.specs.Letters.{member, single}
 use Rattle.lent.specs.Table.{table}
 use Rattle.shifts.specs.Least.{least}
 use Rattle.shifts.specs.Shift.{self_fit}
 
--- a letter of more members than one, or of none
-abbrev pub not_single : ℕ → Bool
-not_single c = not (single c)
-
 unfoldable pub sure_prefix : List ℕ → ℕ
-sure_prefix P = first_with not_single P
+sure_prefix P = prefix_len single P
 
 unfoldable pub mask_in : List ℕ → ℕ → ℕ → ℕ
 mask_in P b zero = 0

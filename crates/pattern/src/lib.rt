@@ -10,7 +10,7 @@ use letters::letter::{common, lone};
 pub mod masks;
 pub mod tables;
 
-#[derive(Clone, Copy)]
+#[derive(Clone, Copy, Debug, PartialEq, Eq)]
 pub struct Prepared {
     // the length of the longest prefix of single letters
     pub sure: usize,
@@ -20,23 +20,10 @@ impl Prepared {
     pub fn new(p: &[u32]) -> Self
         ensures { result.sure ≡ sure_prefix p.now }
     {
-        let sure = sure_of(p);
-        Self { sure }
-    }
-}
-
-// The length of the longest prefix of single letters.
-fn sure_of(p: &[u32]) -> usize
-    ensures { result ≡ sure_prefix p.now }
-{
-    let mut j = 0;
-    while j < p.len() {
-        if !lone(p[j]) {
-            return j;
+        Self {
+            sure: p.iter().take_while(|c| lone(**c)).count(),
         }
-        j += 1;
     }
-    j
 }
 
 // R(c) + 1, by a walk from the right end to the first letter that meets c; 0 if none does, as with an entry mark. No table is held for it.
@@ -45,18 +32,12 @@ fn sure_of(p: &[u32]) -> usize
 // i + m is below n, so that no such shift leads past n, and all walks of a search look at n letters at most. In BM, where letter j fails after
 // g others met, m - R is j - R and g + 1 more: the shift, if R lies left of j, and the tests of that scan; else it is less than those tests.
 //
-// The letters passed are counted, upward: the compiler makes a shorter loop of that than of those left, counted down (docs/SPEED.md).
+// The compiler makes of it the loop of four instructions that was found to be the shortest (docs/SPEED.md).
 pub fn after_r(p: &[u32], c: u32) -> usize
     ensures { result ≡ after_r p.now c }
 {
-    let mut passed = 0;
-    while passed < p.len() {
-        let h = p.len() - passed;
-        let j = h - 1;
-        if common(p[j], c) != 0 {
-            return h;
-        }
-        passed += 1;
+    match p.iter().rposition(|letter| common(*letter, c) != 0) {
+        Some(j) => j + 1,
+        None => 0,
     }
-    0
 }

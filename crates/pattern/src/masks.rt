@@ -6,10 +6,9 @@ ghost use Rattle.letters.specs.Sizes.{SizedPattern};
 ghost use Rattle.pattern.specs.Tables.{mask_table};
 
 use letters::letter::Letter;
-use letters::members::{lowest, rest};
 use letters::strings::Pattern;
 
-#[derive(Clone, Copy)]
+#[derive(Clone, Copy, Debug, PartialEq, Eq)]
 pub struct Masks {
     pub rows: [u64; Letter::MAX_K as usize],
 }
@@ -20,23 +19,19 @@ impl Masks {
         ensures { result.rows ≡ mask_table Letter.MAX_K p.now }
     {
         let mut rows = [0u64; Letter::MAX_K as usize];
-        let mut j: usize = 0;
-        while j < p.len() {
-            mark(&mut rows, p[j], 1u64 << j);
-            j += 1;
+        for (j, c) in p.iter().enumerate() {
+            mark(&mut rows, *c, 1u64 << j);
         }
         Self { rows }
     }
 }
 
 // Brings a place into the row of each member of c.
+#[tactic(auto, using(letters::proofs::MemberLaws::next_below), unfolding(letters::specs::Members::walked))]
 fn mark(rows: &mut [u64; Letter::MAX_K as usize], c: u32, place: u64)
     ensures { rows.new ≡ walked (λ x b. set x b (bit_or (get_or x b 0) place)) rows.old (members Letter.MAX_K c) }
 {
-    let mut left = c;
-    while left != 0 {
-        let b = lowest(left) as usize;
-        rows[b] = rows[b] | place;
-        left = rest(left);
+    for b in Letter::from(c).members() {
+        rows[b as usize] |= place;
     }
 }

@@ -2,14 +2,14 @@
 ghost use Rattle.std.specs.Prelude.{◌≡◌, ℕ, ◌+◌, ◌-◌, ◌≤◌, ◌<◌, leb, length, get_or};
 ghost use Rattle.letters.specs.Sizes.{SizedPattern};
 ghost use Rattle.shifts.specs.Least.{least};
-ghost use Rattle.pattern.specs.Far.{front_far, end_far, far_of};
+ghost use Rattle.pattern.specs.Far.{front_far, end_far};
 ghost use Rattle.pattern.specs.Tables.{shift_table, front_shifts, end_shifts};
 
 use hits::scan::{reach_to, scan_back};
 use letters::strings::Pattern;
-use letters::width::index;
 
-#[derive(Clone, Copy)]
+// An array with room for the longest pattern, since there is no heap.
+#[derive(Clone, Copy, Debug, PartialEq, Eq)]
 pub struct Shifts {
     pub by: [u32; Pattern::MAX_M + 1],
 }
@@ -20,7 +20,7 @@ impl Shifts {
         requires { SizedPattern Pattern.MAX_M p.now }
         ensures { result.by ≡ front_shifts Pattern.MAX_M p.now }
     {
-        let far = fars(p, false);
+        let far = fars(p.len(), |s| front_far(p, s));
         let by = least_shifts(&far, p.len());
         Self { by }
     }
@@ -30,7 +30,7 @@ impl Shifts {
         requires { SizedPattern Pattern.MAX_M p.now }
         ensures { result.by ≡ end_shifts Pattern.MAX_M p.now }
     {
-        let far = fars(p, true);
+        let far = fars(p.len(), |s| end_far(p, s));
         let by = least_shifts(&far, p.len());
         Self { by }
     }
@@ -55,29 +55,18 @@ fn end_far(p: &[u32], s: usize) -> usize
     if met == rest { p.len() } else { met }
 }
 
-fn far_of(p: &[u32], ending: bool, s: usize) -> usize
-    requires { s ≤ length p.now }
-    ensures { (result ≡ far_of ending p.now s) × (result ≤ length p.now) }
+// How far, for each s from 1 to m, where `far` tells it of one s.
+fn fars<F: Fn(usize) -> usize>(m: usize, far: F) -> [u32; Pattern::MAX_M + 1]
+    requires short { m ≤ Pattern.MAX_M }
+    requires callable { (s : ℕ) → s ≤ m → F.pre far s }
+    requires within { (s r : ℕ) → s ≤ m → F.post far s r → r ≤ m }
+    ensures { (s : ℕ) → 0 < s → s ≤ m → F.post far s (get_or result s 0) }
 {
-    if ending {
-        return end_far(p, s);
+    let mut all = [0u32; Pattern::MAX_M + 1];
+    for s in 1..=m {
+        all[s] = far(s) as u32;
     }
-    front_far(p, s)
-}
-
-// How far, for each s from 1 to m.
-fn fars(p: &[u32], ending: bool) -> [u32; Pattern::MAX_M + 1]
-    requires { length p.now ≤ Pattern.MAX_M }
-    ensures { (s : ℕ) → 0 < s → s ≤ length p.now → get_or result s 0 ≡ far_of ending p.now s }
-{
-    let m = p.len();
-    let mut far = [0u32; Pattern::MAX_M + 1];
-    let mut s: usize = 1;
-    while s <= m {
-        far[s] = far_of(p, ending, s) as u32;
-        s += 1;
-    }
-    far
+    all
 }
 
 // The least x from s on, below m, for which far[x] is at least h; else m.
@@ -85,14 +74,7 @@ fn next_far(far: &[u32; Pattern::MAX_M + 1], s: usize, h: usize, m: usize) -> us
     requires { (s ≤ m) × (m ≤ Pattern.MAX_M) }
     ensures { result ≡ least (λ (x : ℕ). leb h (get_or far.now x 0)) s (m - s) }
 {
-    let mut x = s;
-    while x < m {
-        if h <= index(far[x]) {
-            return x;
-        }
-        x += 1;
-    }
-    x
+    (s..m).find(|x| h <= far[*x] as usize).unwrap_or(m)
 }
 
 // For each h up to m the least s from 1 to m for which far[s] is at least h, in one pass: it never falls as h rises.
@@ -102,11 +84,9 @@ fn least_shifts(far: &[u32; Pattern::MAX_M + 1], m: usize) -> [u32; Pattern::MAX
 {
     let mut out = [1u32; Pattern::MAX_M + 1];
     let mut s: usize = 1;
-    let mut h: usize = 0;
-    while h <= m {
+    for h in 0..=m {
         s = next_far(far, s, h, m);
         out[h] = s as u32;
-        h += 1;
     }
     out
 }

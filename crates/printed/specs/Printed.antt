@@ -6,10 +6,12 @@
 --   bytes_for, printed     what is printed, by the outcome of a report, and for a sheet
 --   PrintInto             the promise
 --   NoMore                 a list that was filled is as good as the whole input
-use Rattle.std.specs.Prelude.{ℕ, ◌≤◌, ◌≡◌, List, [], ◌∷◌, ◌++◌, length, take}
+use Rattle.std.specs.Prelude.{ℕ, ◌≤◌, ◌≡◌, List, [], ◌∷◌, ◌++◌, length, take, Result, Ok, Err}
 use Rattle.promise.specs.Promised.{Promised}
 use Rattle.lent.specs.Over.{over}
-use Rattle.sheet.specs.Reader.{Outcome, found, refusal, and_then}
+use Rattle.inputs.specs.Numbers.{number_of}
+use Rattle.inputs.specs.declared.refusal.Refusal.{Refusal}
+use Rattle.sheet.specs.Reader.{and_then}
 use Rattle.decimal.specs.Decimal.{ended}
 use Rattle.reportbytes.specs.Bytes.{bytes_of}
 use Rattle.report.specs.Values.{values_of}
@@ -25,13 +27,13 @@ at_name = 97 ∷ 116 ∷ 32 ∷ []
 unfoldable pub refusal_line : ℕ → ℕ → List ℕ
 refusal_line number place = refused_name ++ (ended number 32 ++ (at_name ++ ended place 10))
 
-abbrev pub bytes_for : Outcome (List ℕ) → List ℕ
-bytes_for (found bytes) = bytes
-bytes_for (refusal number place) = refusal_line number place
+abbrev pub bytes_for : Result (List ℕ) Refusal → List ℕ
+bytes_for (Ok bytes) = bytes
+bytes_for (Err r) = refusal_line (number_of r.kind) r.place
 
 -- the report of the sheet s, or what the reader refuses: here there is room for any report
-unfoldable pub report_of : ℕ → ℕ → ℕ → ℕ → List ℕ → Outcome (List ℕ)
-report_of B K M N s = and_then (read_alone B K M N s) (λ w. found (bytes_of (values_of w.pattern w.text)))
+unfoldable pub report_of : ℕ → ℕ → ℕ → ℕ → List ℕ → Result (List ℕ) Refusal
+report_of B K M N s = and_then (read_alone B K M N s) (λ w. Ok (bytes_of (values_of w.pattern w.text)))
 
 -- B, K, M and N are the largest sheet, k, m and n
 unfoldable pub printed : ℕ → ℕ → ℕ → ℕ → List ℕ → List ℕ

@@ -5,39 +5,40 @@ mod twice;
 
 ghost use Rattle.std.specs.Prelude.{◌≡◌, ◌≤◌, length, take};
 ghost use Rattle.lent.specs.Over.{over};
+ghost use Rattle.inputs.specs.Numbers.{number_of};
 ghost use Rattle.printed.specs.Printed.{refusal_line, PrintInto, NoMore};
 
 use decimal::bytes::put_ended;
-use inputs::refusal::{Refusal, Written};
+use inputs::refusal::Refusal;
 use lent::put_bytes;
 use letters::letter::Letter;
 use letters::strings::{Pattern, Text};
-use letters::width::wide;
 use report::Report;
 use sheet::Sheet;
-use shifts::smaller;
 
-// The line of a refusal. It has 11 bytes of words and two numbers of 20 digits at most, each with the byte after it.
+// The line of a refusal. It has 11 bytes of words and two numbers of 20 digits at most, each with the byte after it. The bytes go into the lent list by
+// four puts: a Display of its own and a formatter over that list would state the same bytes twice, and be no plainer.
 fn put_refusal(out: &mut [u8], r: Refusal) -> usize
     requires { 53 ≤ length out.old }
-    ensures { (result ≡ length (refusal_line r.number r.place)) × (out.new ≡ over (refusal_line r.number r.place) out.old) × (result ≤ length out.new) }
+    ensures { (result ≡ length (refusal_line (number_of r.kind) r.place)) × (out.new ≡ over (refusal_line (number_of r.kind) r.place) out.old) × (result ≤ length out.new) }
 {
     let a = put_bytes(out, 0, b"refused ");
-    let b = put_ended(out, a, wide(r.number), 32);
+    let b = put_ended(out, a, u64::from(u32::from(r.kind)), b' ');
     let c = put_bytes(out, b, b"at ");
-    put_ended(out, c, r.place as u64, 10)
+    put_ended(out, c, r.place as u64, b'\n')
 }
 
-// The bytes for the sheet that the first n bytes of a list are, over the front of the lent list; answers how many.
+// The bytes for the sheet that the first n bytes of a list are, over the front of the lent list; answers how many. The list and how much of it is
+// read, as the clause `all` of `of_sheet` speaks of both.
 pub fn of_front(sheet: &[u8], n: usize, out: &mut [u8]) -> usize
     requires { Report.MAX_BYTES ≤ length out.old }
     ensures promise { PrintInto Sheet.MAX_BYTES Letter.MAX_K Pattern.MAX_M Text.MAX_N (take n sheet.now) out.old result out.new }
     ensures within { result ≤ length out.new }
 {
-    let read = smaller(n, sheet.len());
+    let read = n.min(sheet.len());
     match report::of_sheet(&sheet[..read], out) {
-        Written::Wrote(len) => len,
-        Written::Refused(r) => put_refusal(out, r),
+        Ok(len) => len,
+        Err(r) => put_refusal(out, r),
     }
 }
 

@@ -2,41 +2,19 @@
 use mathlib.Core.Path.{◌≡◌, sym, ap, ◌∙◌, subst}
 use mathlib.Core.Logic.{◌⊎◌, inl, inr, ⊎_elim}
 use mathlib.Core.Bool.{Bool, true, false, ◌&&◌, ◌||◌}
-use Prim.Native.Nat.{ℕ, zero, suc, ◌+◌, ◌*◌, ◌/◌, ◌%◌, ◌≤◌, ◌<◌}
-use native.Mathlib.Nat.{dvd_of_mod-eq-zero, mod-eq-zero_of_dvd, dvd-mul_left_of_dvd, dvd_trans, le_of_dvd, div-add-mod, add-mul, mul_assoc, mul_comm, mul_left_comm, mul-add-mod_self_left, mul-mod_right, mod-lt, add-zero, not-suc-le-zero, eq-or-lt_of_le, le_of_suc-le-suc, eq_of_mul-eq-mul_left, pos_of_dvd_of_pos, mul-dvd-mul_left}
+use Prim.Native.Nat.{ℕ, zero, suc, ◌+◌, ◌*◌, ◌/◌, ◌%◌, ◌<◌, ◌∣◌}
+use native.Mathlib.Nat.{dvd_of_mod-eq-zero, mod-eq-zero_of_dvd, dvd-mul_right, mul-div_cancel', div-add-mod, add-mul, mul_assoc, mul_comm, mul_left_comm, mul-add-mod_self_left, mod-lt, not-suc-le-zero, eq-or-lt_of_le, le_of_suc-le-suc, eq_of_mul-eq-mul_left}
 use borrow.Author.Tests.{eqb-true, eq-eqb}
 use lib.Dec.{T, eqb, eqb→eq}
 use Rattle.products.specs.Primes.{divides}
 
--- d divides n. Only 0 is divided by 0, since n % 0 is n
-abbrev pub Divides : ℕ → ℕ → Type 0
-Divides d n = n % d ≡ 0
-
-pub divides_true : (d n : ℕ) → divides d n ≡ true → Divides d n
+pub divides_true : (d n : ℕ) → divides d n ≡ true → d ∣ n
 unfolding divides
-divides_true d n e = eqb-true (n % d) 0 e
+divides_true d n e = dvd_of_mod-eq-zero d (eqb-true (n % d) 0 e)
 
-pub true_divides : (d n : ℕ) → Divides d n → divides d n ≡ true
+pub true_divides : (d n : ℕ) → d ∣ n → divides d n ≡ true
 unfolding divides
-true_divides d n e = eq-eqb (n % d) 0 e
-
-pub times_left : (d a b : ℕ) → Divides d b → Divides d (a * b)
-times_left d a b h = mod-eq-zero_of_dvd d (dvd-mul_left_of_dvd d (dvd_of_mod-eq-zero d h) a)
-
-pub times_both : (p a b : ℕ) → Divides a b → Divides (p * a) (p * b)
-times_both p a b h = mod-eq-zero_of_dvd (p * a) (mul-dvd-mul_left a p (dvd_of_mod-eq-zero a h))
-
-pub trans : (a b c : ℕ) → Divides a b → Divides b c → Divides a c
-trans a b c h k = mod-eq-zero_of_dvd a (dvd_trans a (dvd_of_mod-eq-zero a h) (dvd_of_mod-eq-zero b k))
-
-pub divides_le : (d n : ℕ) → 0 < n → Divides d n → d ≤ n
-divides_le d n p h = le_of_dvd p (dvd_of_mod-eq-zero d h)
-
-pub divides_pos : (d n : ℕ) → 0 < n → Divides d n → 0 < d
-divides_pos d n p h = pos_of_dvd_of_pos (dvd_of_mod-eq-zero d h) p
-
-pub quotient : (d n : ℕ) → Divides d n → n ≡ d * (n / d)
-quotient d n h = sym (div-add-mod n d) ∙ ap (λ (r : ℕ). d * (n / d) + r) h ∙ add-zero (d * (n / d))
+true_divides d n h = eq-eqb (n % d) 0 (mod-eq-zero_of_dvd d h)
 
 mod_mul : (p a b : ℕ) → a * b % p ≡ (a % p) * b % p
 mod_mul p a b =
@@ -90,7 +68,7 @@ abbrev pub prime_test : ℕ → Bool
 prime_test p = below p (λ r. below p (λ s. implies (eqb (r * s % p) 0) (eqb r 0 || eqb s 0)))
 
 abbrev pub Prime : ℕ → Type 0
-Prime p = (a b : ℕ) → Divides p (a * b) → Divides p a ⊎ Divides p b
+Prime p = (a b : ℕ) → p ∣ a * b → (p ∣ a) ⊎ (p ∣ b)
 
 pub prime_by : (p : ℕ) → 0 < p → T (prime_test p) → Prime p
 prime_by p h t a b d =
@@ -99,17 +77,17 @@ prime_by p h t a b d =
     let u =
     below_at p (λ s. implies (eqb (r * s % p) 0) (eqb r 0 || eqb s 0))
     (below_at p (λ r. below p (λ s. implies (eqb (r * s % p) 0) (eqb r 0 || eqb s 0))) t r (mod-lt a h)) s (mod-lt b h) in
-    let z : r * s % p ≡ 0 = sym (residues p a b) ∙ d in
+    let z : r * s % p ≡ 0 = sym (residues p a b) ∙ mod-eq-zero_of_dvd p d in
     let v = implied (eqb (r * s % p) 0) (eqb r 0 || eqb s 0) u (subst (λ (x : ℕ). T (eqb x 0)) (sym z) tt) in
-    ⊎_elim (λ x. inl (eqb→eq r 0 x)) (λ x. inr (eqb→eq s 0 x)) (or_cases (eqb r 0) (eqb s 0) v)
+    ⊎_elim (λ x. inl (dvd_of_mod-eq-zero p (eqb→eq r 0 x))) (λ x. inr (dvd_of_mod-eq-zero p (eqb→eq s 0 x))) (or_cases (eqb r 0) (eqb s 0) v)
 
 -- a divisor of p * n is divided by p, or divides n
-pub strip : (p n g : ℕ) → 0 < p → Prime p → Divides g (p * n) → Divides p g ⊎ Divides g n
+pub strip : (p n g : ℕ) → 0 < p → Prime p → g ∣ p * n → (p ∣ g) ⊎ (g ∣ n)
 strip p n g h pr d =
     let q = p * n / g in
-    let e : p * n ≡ g * q = quotient g (p * n) d in
+    let e : p * n ≡ g * q = sym (mul-div_cancel' g d) in
     ⊎_elim (λ x. inl x)
-    (λ x. let f : q ≡ p * (q / p) = quotient p q x in
+    (λ x. let f : q ≡ p * (q / p) = sym (mul-div_cancel' p x) in
     let k : p * n ≡ p * (g * (q / p)) = e ∙ ap (λ (y : ℕ). g * y) f ∙ mul_left_comm g p (q / p) in
-    inr (subst (λ (y : ℕ). Divides g y) (sym (eq_of_mul-eq-mul_left p h n (g * (q / p)) k)) (mul-mod_right g (q / p))))
-    (pr g q (subst (λ (y : ℕ). Divides p y) e (mul-mod_right p n)))
+    inr (subst (λ (y : ℕ). g ∣ y) (sym (eq_of_mul-eq-mul_left p h n (g * (q / p)) k)) (dvd-mul_right g (q / p))))
+    (pr g q (subst (λ (y : ℕ). p ∣ y) e (dvd-mul_right p n)))

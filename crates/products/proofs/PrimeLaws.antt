@@ -3,8 +3,8 @@ use mathlib.Core.Path.{◌≡◌, refl, sym, ap, ◌∙◌, subst}
 use mathlib.Core.List.{List, [], ◌∷◌}
 use mathlib.Core.Logic.{⊎_elim}
 use mathlib.Core.Bool.{Bool, true, false, ◌&&◌}
-use Prim.Native.Nat.{ℕ, zero, suc, ◌+◌, ◌*◌, ◌/◌, ◌%◌, ◌^◌, ◌≤◌, ◌<◌}
-use native.Mathlib.Nat.{eq-zero-or-pos, zero-add, pow-suc, lt_of_lt_of_le, le_of_suc-le-suc, not-suc-le-zero}
+use Prim.Native.Nat.{ℕ, zero, suc, ◌+◌, ◌*◌, ◌/◌, ◌%◌, ◌^◌, ◌≤◌, ◌<◌, ◌∣◌}
+use native.Mathlib.Nat.{mod-eq-zero_of_dvd, eq-zero-or-pos, zero-add, pow-suc, lt_of_lt_of_le, le_of_suc-le-suc, not-suc-le-zero}
 use native.Mathlib.Omega.{arith}
 use borrow.Author.Tests.{lt-ltb, ltb-true}
 use lib.Dec.{T, eqb, eqb→eq, ltb, ltb→lt}
@@ -18,7 +18,7 @@ use Rattle.hits.specs.Counts.{tally}
 use Rattle.inputs.specs.Refusals.{bad}
 use Rattle.inputs.proofs.BadLaws.{good, good_small}
 use Rattle.products.specs.Primes.{primes, product, prime, product_of, first_product, divides, is_product, dividing, letter_of}
-use Rattle.products.proofs.Divisors.{Divides, divides_true, true_divides, Prime, prime_test, prime_by, below, below_at, and_l, and_r, implies, implied}
+use Rattle.products.proofs.Divisors.{divides_true, true_divides, Prime, prime_test, prime_by, below, below_at, and_l, and_r, implies, implied}
 use Rattle.products.proofs.SetLaws.{Primes, set_product, over_members, set_take, set_none, member_divides, set_divides, positive, which_member, some_member, as_set}
 
 -- each test is computed, for all nine at once
@@ -46,13 +46,13 @@ prime_at b h =
     (l, prime_by (get_or primes b 1) (omega arith) (and_r (ltb 1 (get_or primes b 1)) (prime_test (get_or primes b 1)) t))
 
 -- none divides another
-pub apart : (i j : ℕ) → i < 9 → j < 9 → Divides (prime i) (prime j) → i ≡ j
+pub apart : (i j : ℕ) → i < 9 → j < 9 → prime i ∣ prime j → i ≡ j
 unfolding prime primes
 apart i j hi hj d =
     let t =
     below_at 9 (λ j. implies (eqb (get_or primes j 1 % get_or primes i 1) 0) (eqb i j))
     (below_at 9 (λ i. below 9 (λ j. implies (eqb (get_or primes j 1 % get_or primes i 1) 0) (eqb i j))) tt i hi) j hj in
-    eqb→eq i j (implied (eqb (get_or primes j 1 % get_or primes i 1) 0) (eqb i j) t (subst (λ (x : ℕ). T (eqb x 0)) (sym d) tt))
+    eqb→eq i j (implied (eqb (get_or primes j 1 % get_or primes i 1) 0) (eqb i j) t (subst (λ (x : ℕ). T (eqb x 0)) (sym (mod-eq-zero_of_dvd (get_or primes i 1) d)) tt))
 
 -- a letter's product, by its digits
 pub by_digits : (c : ℕ) → product_of c ≡ set_product primes c
@@ -68,22 +68,22 @@ pub product_none : product_of 0 ≡ 1
 product_none = by_digits 0 ∙ set_none primes
 
 -- a prime divides a letter's product exactly if its base letter is a member
-pub member_prime : (b c : ℕ) → b < 9 → digit b c ≡ 1 → Divides (prime b) (product_of c)
+pub member_prime : (b c : ℕ) → b < 9 → digit b c ≡ 1 → prime b ∣ product_of c
 unfolding prime primes
 member_prime b c h d = rw (by_digits c) (member_divides primes c b h d)
 
-pub prime_member : (b c : ℕ) → b < 9 → Divides (prime b) (product_of c) → digit b c ≡ 1
+pub prime_member : (b c : ℕ) → b < 9 → prime b ∣ product_of c → digit b c ≡ 1
 unfolding prime primes
 prime_member b c h d =
     let q = prime_at b h in
-    let w = which_member primes (prime b) q.0 q.1 c (subst (λ (y : ℕ). Divides (prime b) y) (by_digits c) d) in
+    let w = which_member primes (prime b) q.0 q.1 c (subst (λ (y : ℕ). prime b ∣ y) (by_digits c) d) in
     subst (λ (i : ℕ). digit i c ≡ 1) (sym (apart b w.0 h w.1 w.3)) w.2
 
 -- a divisor of a product that exceeds 1 is divided by a member's prime
-pub divisor_member : (c g : ℕ) → 1 < g → Divides g (product_of c) → (b : ℕ) × (b < 9) × (digit b c ≡ 1) × Divides (prime b) g
+pub divisor_member : (c g : ℕ) → 1 < g → g ∣ product_of c → (b : ℕ) × (b < 9) × (digit b c ≡ 1) × (prime b ∣ g)
 unfolding prime primes
 divisor_member c g h d =
-    ⊎_elim (λ z. absurd (omega arith)) (λ f. f) (some_member primes nine c g (subst (λ (y : ℕ). Divides g y) (by_digits c) d))
+    ⊎_elim (λ z. absurd (omega arith)) (λ f. f) (some_member primes nine c g (subst (λ (y : ℕ). g ∣ y) (by_digits c) d))
 
 -- ---- back from a value to its letter
 digit_dividing : (ps : List ℕ) (v b : ℕ) → b < length ps → digit b (dividing ps v) ≡ tally (divides (get_or ps b 1) v)
@@ -154,17 +154,17 @@ module _ (k : ℕ) (h : k ≤ 9) where
   within c l = lt_of_lt_of_le l (pow_mono h)
 
   -- a letter's product divides the product of the first k primes
-  pub divides_first : (c : ℕ) → c < 2 ^ k → Divides (product_of c) (first_product k)
+  pub divides_first : (c : ℕ) → c < 2 ^ k → product_of c ∣ first_product k
   unfolding first_product
   divides_first c l = rw (by_digits c, ← set_take k primes c l) (set_divides (take k primes) c)
 
   -- a value is taken exactly if it is above 0 and divides the product of the first k primes
-  pub taken : (v : ℕ) → is_product k v ≡ true → (0 < v) × Divides v (first_product k)
+  pub taken : (v : ℕ) → is_product k v ≡ true → (0 < v) × (v ∣ first_product k)
   unfolding is_product
   taken v e =
       (ltb-true 0 v (and_true_l (ltb 0 v) (divides v (first_product k)) e), divides_true v (first_product k) (and_true_r (ltb 0 v) (divides v (first_product k)) e))
 
-  pub takes : (v : ℕ) → 0 < v → Divides v (first_product k) → is_product k v ≡ true
+  pub takes : (v : ℕ) → 0 < v → v ∣ first_product k → is_product k v ≡ true
   unfolding is_product
   takes v l d = rw (lt-ltb 0 v l, true_divides v (first_product k) d)
 

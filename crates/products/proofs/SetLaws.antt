@@ -2,8 +2,8 @@
 use mathlib.Core.Path.{◌≡◌, refl, sym, ap, ◌∙◌, subst}
 use mathlib.Core.List.{List, [], ◌∷◌, map}
 use mathlib.Core.Logic.{◌⊎◌, inl, inr, ⊎_elim}
-use Prim.Native.Nat.{ℕ, zero, suc, ◌+◌, ◌*◌, ◌/◌, ◌%◌, ◌^◌, ◌≤◌, ◌<◌}
-use native.Mathlib.Nat.{eq-zero-or-pos, zero-lt-suc, le_of_suc-le-suc, mul-mod_right, one-mul, mul_assoc, eq_of_mul-eq-mul_left, pow-suc, mul-pos, le_antisymm}
+use Prim.Native.Nat.{ℕ, zero, suc, ◌+◌, ◌*◌, ◌/◌, ◌%◌, ◌^◌, ◌≤◌, ◌<◌, ◌∣◌}
+use native.Mathlib.Nat.{eq-zero-or-pos, zero-lt-suc, le_of_suc-le-suc, dvd_refl, dvd-mul_right, dvd-mul_left_of_dvd, mul-dvd-mul_left, le_of_dvd, pos_of_dvd_of_pos, mul-div_cancel', one-mul, mul_assoc, eq_of_mul-eq-mul_left, pow-suc, mul-pos, le_antisymm}
 use native.Mathlib.Omega.{arith}
 use borrow.Author.Tests.{eq-eqb, ne_eqb}
 use lib.Arith.{lt-one}
@@ -12,7 +12,7 @@ use Rattle.letters.specs.Digits.{digit}
 use Rattle.letters.specs.Letters.{member}
 use Rattle.letters.specs.Members.{members_from}
 use Rattle.products.specs.Primes.{product}
-use Rattle.products.proofs.Divisors.{Divides, Prime, strip, times_left, times_both, divides_le, divides_pos, quotient}
+use Rattle.products.proofs.Divisors.{Prime, strip}
 
 -- p where the digit is set, else 1
 abbrev pub factor : ℕ → ℕ → ℕ
@@ -81,22 +81,22 @@ set_take (suc k) (p ∷ ps) x h =
     ap (λ (y : ℕ). factor (x % 2) p * y) (set_take k ps (x / 2) (let e = pow-suc 2 k in omega arith))
 
 -- a member's number divides the product
-pub member_divides : (ps : List ℕ) (x i : ℕ) → i < length ps → digit i x ≡ 1 → Divides (get_or ps i 1) (set_product ps x)
+pub member_divides : (ps : List ℕ) (x i : ℕ) → i < length ps → digit i x ≡ 1 → get_or ps i 1 ∣ set_product ps x
 unfolding digit
 member_divides [] x i h b = absurd (omega arith)
-member_divides (p ∷ ps) x zero h b = rw (with_it p ps x b) (mul-mod_right p (set_product ps (x / 2)))
+member_divides (p ∷ ps) x zero h b = rw (with_it p ps x b) (dvd-mul_right p (set_product ps (x / 2)))
 member_divides (p ∷ ps) x (suc i) h b =
     let r = member_divides ps (x / 2) i (le_of_suc-le-suc h) b in
-    ⊎_elim (λ z. rw (without_it p ps x z) r) (λ z. rw (with_it p ps x z) (times_left (get_or ps i 1) p (set_product ps (x / 2)) r)) (even_or_odd x)
+    ⊎_elim (λ z. rw (without_it p ps x z) r) (λ z. rw (with_it p ps x z) (dvd-mul_left_of_dvd (get_or ps i 1) r p)) (even_or_odd x)
 
 -- a set's product divides the product of all
-pub set_divides : (ps : List ℕ) (x : ℕ) → Divides (set_product ps x) (product ps)
+pub set_divides : (ps : List ℕ) (x : ℕ) → set_product ps x ∣ product ps
 unfolding set_product product
-set_divides [] x = refl
+set_divides [] x = dvd_refl 1
 set_divides (p ∷ ps) x =
     let r = set_divides ps (x / 2) in
-    ⊎_elim (λ z. rw (without_it p ps x z) (times_left (set_product ps (x / 2)) p (product ps) r))
-    (λ z. rw (with_it p ps x z) (times_both p (set_product ps (x / 2)) (product ps) r))
+    ⊎_elim (λ z. rw (without_it p ps x z) (dvd-mul_left_of_dvd (set_product ps (x / 2)) r p))
+    (λ z. rw (with_it p ps x z) (mul-dvd-mul_left (set_product ps (x / 2)) p r))
     (even_or_odd x)
 
 -- all of these are primes
@@ -124,26 +124,26 @@ unfolding digit
 here p ps x P z k = (0, zero-lt-suc (length ps), z, k)
 
 -- a divisor of the product is 1, or a member's prime divides it
-pub some_member : (ps : List ℕ) → Primes ps → (x g : ℕ) → Divides g (set_product ps x) → (g ≤ 1) ⊎ Found ps x (λ p. Divides p g)
+pub some_member : (ps : List ℕ) → Primes ps → (x g : ℕ) → g ∣ set_product ps x → (g ≤ 1) ⊎ Found ps x (λ p. p ∣ g)
 unfolding Primes set_product
-some_member [] pr x g d = inl (divides_le g 1 (zero-lt-suc zero) d)
+some_member [] pr x g d = inl (le_of_dvd (zero-lt-suc zero) d)
 some_member (p ∷ ps) pr x g d =
-    let rest : Divides g (set_product ps (x / 2)) → (g ≤ 1) ⊎ Found (p ∷ ps) x (λ p. Divides p g) =
-    λ k. ⊎_elim (λ z. inl z) (λ f. inr (more p ps x (λ p. Divides p g) f)) (some_member ps pr.1 (x / 2) g k) in
-    ⊎_elim (λ z. rest (subst (λ (y : ℕ). Divides g y) (without_it p ps x z) d))
-    (λ z. ⊎_elim (λ k. inr (here p ps x (λ p. Divides p g) z k)) rest
-    (strip p (set_product ps (x / 2)) g pr.0.0 pr.0.1 (subst (λ (y : ℕ). Divides g y) (with_it p ps x z) d)))
+    let rest : g ∣ set_product ps (x / 2) → (g ≤ 1) ⊎ Found (p ∷ ps) x (λ p. p ∣ g) =
+    λ k. ⊎_elim (λ z. inl z) (λ f. inr (more p ps x (λ p. p ∣ g) f)) (some_member ps pr.1 (x / 2) g k) in
+    ⊎_elim (λ z. rest (subst (λ (y : ℕ). g ∣ y) (without_it p ps x z) d))
+    (λ z. ⊎_elim (λ k. inr (here p ps x (λ p. p ∣ g) z k)) rest
+    (strip p (set_product ps (x / 2)) g pr.0.0 pr.0.1 (subst (λ (y : ℕ). g ∣ y) (with_it p ps x z) d)))
     (even_or_odd x)
 
 -- a prime that divides the product divides a member's
-pub which_member : (ps : List ℕ) (q : ℕ) → 1 < q → Prime q → (x : ℕ) → Divides q (set_product ps x) → Found ps x (λ p. Divides q p)
+pub which_member : (ps : List ℕ) (q : ℕ) → 1 < q → Prime q → (x : ℕ) → q ∣ set_product ps x → Found ps x (λ p. q ∣ p)
 unfolding set_product
-which_member [] q h pr x d = absurd (let l = divides_le q 1 (zero-lt-suc zero) d in omega arith)
+which_member [] q h pr x d = absurd (let l : q ≤ 1 = le_of_dvd (zero-lt-suc zero) d in omega arith)
 which_member (p ∷ ps) q h pr x d =
-    let rest : Divides q (set_product ps (x / 2)) → Found (p ∷ ps) x (λ p. Divides q p) =
-    λ k. more p ps x (λ p. Divides q p) (which_member ps q h pr (x / 2) k) in
-    ⊎_elim (λ z. rest (subst (λ (y : ℕ). Divides q y) (without_it p ps x z) d))
-    (λ z. ⊎_elim (λ k. here p ps x (λ p. Divides q p) z k) rest (pr p (set_product ps (x / 2)) (subst (λ (y : ℕ). Divides q y) (with_it p ps x z) d)))
+    let rest : q ∣ set_product ps (x / 2) → Found (p ∷ ps) x (λ p. q ∣ p) =
+    λ k. more p ps x (λ p. q ∣ p) (which_member ps q h pr (x / 2) k) in
+    ⊎_elim (λ z. rest (subst (λ (y : ℕ). q ∣ y) (without_it p ps x z) d))
+    (λ z. ⊎_elim (λ k. here p ps x (λ p. q ∣ p) z k) rest (pr p (set_product ps (x / 2)) (subst (λ (y : ℕ). q ∣ y) (with_it p ps x z) d)))
     (even_or_odd x)
 
 odd : (p : ℕ) (ps : List ℕ) (x : ℕ) → set_product (p ∷ ps) (x * 2 + 1) ≡ p * set_product ps x
@@ -155,19 +155,19 @@ even : (p : ℕ) (ps : List ℕ) (x : ℕ) → set_product (p ∷ ps) (x * 2) �
 even p ps x = let h : x * 2 / 2 ≡ x = omega arith in without_it p ps (x * 2) (omega arith) ∙ ap (λ (y : ℕ). set_product ps y) h
 
 -- a divisor of the product of all is the product of a set
-pub as_set : (ps : List ℕ) → Primes ps → (v : ℕ) → Divides v (product ps) → (x : ℕ) × (x < 2 ^ length ps) × (v ≡ set_product ps x)
+pub as_set : (ps : List ℕ) → Primes ps → (v : ℕ) → v ∣ product ps → (x : ℕ) × (x < 2 ^ length ps) × (v ≡ set_product ps x)
 unfolding product Primes set_product
-as_set [] pr v d = (0, zero-lt-suc zero, le_antisymm (divides_le v 1 (zero-lt-suc zero) d) (divides_pos v 1 (zero-lt-suc zero) d))
+as_set [] pr v d = (0, zero-lt-suc zero, le_antisymm (le_of_dvd (zero-lt-suc zero) d) (pos_of_dvd_of_pos d (zero-lt-suc zero)))
 as_set (p ∷ ps) pr v d =
     let w = pow-suc 2 (length ps) in
     ⊎_elim
-    (λ (k : Divides p v).
+    (λ (k : p ∣ v).
     let q = v / p in
-    let e : v ≡ p * q = quotient p v k in
+    let e : v ≡ p * q = sym (mul-div_cancel' p k) in
     let r = p * product ps / v in
-    let f : p * product ps ≡ p * (q * r) = quotient v (p * product ps) d ∙ ap (λ (y : ℕ). y * r) e ∙ mul_assoc p q r in
+    let f : p * product ps ≡ p * (q * r) = sym (mul-div_cancel' v d) ∙ ap (λ (y : ℕ). y * r) e ∙ mul_assoc p q r in
     let g : product ps ≡ q * r = eq_of_mul-eq-mul_left p pr.0.0 (product ps) (q * r) f in
-    let s = as_set ps pr.1 q (ap (λ (y : ℕ). y % q) g ∙ mul-mod_right q r) in
+    let s = as_set ps pr.1 q (subst (λ (y : ℕ). q ∣ y) (sym g) (dvd-mul_right q r)) in
     (s.0 * 2 + 1, omega (arith, s.1), e ∙ ap (λ (y : ℕ). p * y) s.2 ∙ sym (odd p ps s.0)))
     (λ k. let s = as_set ps pr.1 v k in (s.0 * 2, omega (arith, s.1), s.2 ∙ sym (even p ps s.0)))
     (strip p (product ps) v pr.0.0 pr.0.1 d)

@@ -1,10 +1,10 @@
 // Products of primes: which values they are, and which letters.
-ghost use Rattle.std.specs.Prelude.{◌≡◌, ◌&&◌, ◌+◌, ◌*◌, ◌≤◌, ◌<◌, ltb};
+ghost use Rattle.std.specs.Prelude.{◌≡◌, not, ◌&&◌, ◌+◌, ◌*◌, ◌≤◌, ◌<◌, ltb};
 ghost use Rattle.hits.specs.Counts.{tally};
 ghost use Rattle.products.specs.Primes.{first_product, divides, letter_of};
 
 // A letter as the product of its members' primes.
-#[derive(Clone, Copy)]
+#[derive(Clone, Copy, Debug, PartialEq, Eq)]
 pub struct Product {
     pub value: u32,
 }
@@ -32,14 +32,12 @@ pub(crate) fn first_product(k: u32) -> u32
     FIRST[k as usize]
 }
 
-// Whether v is above 0 and divides the product of the first primes. A value of any size is taken or refused.
-pub(crate) fn is_product(full: u32, v: u32) -> bool
-    ensures { result ≡ (ltb 0 v && divides v full) }
+// Whether v is no product: it is 0, or does not divide the product of the first primes. A value of any size is taken or refused.
+#[tactic(auto, unfolding(crate::specs::Primes::divides))]
+pub(crate) fn is_other(full: u32, v: u32) -> bool
+    ensures { result ≡ not (ltb 0 v && divides v full) }
 {
-    if v == 0 {
-        return false;
-    }
-    full % v == 0
+    v == 0 || full % v != 0
 }
 
 // The members above, moved up by one, with the one below them if p divides v.
@@ -47,10 +45,7 @@ fn joined(v: u32, p: u32, above: u32) -> u32
     requires { (0 < p) × (above < 256) }
     ensures { (result ≡ tally (divides p v) + 2 * above) × (result ≤ 1 + 2 * above) }
 {
-    if v % p == 0 {
-        return 1 + 2 * above;
-    }
-    2 * above
+    2 * above + u32::from(v % p == 0)
 }
 
 // The letter whose members' primes divide v, from the highest down. The remainders are by constants, which the compiler makes cheap.

@@ -14,7 +14,7 @@ use Rattle.hits.proofs.MetLaws.{met_at, met_all}
 use Rattle.hits.proofs.HitLaws.{hit_is, hit_met}
 use Rattle.shifts.specs.Least.{least}
 use Rattle.inputs.specs.Refusals.{verdict_at}
-use Rattle.inputs.specs.declared.refusal.Check.TheVariants.{Passed}
+use Rattle.std.specs.Prelude.{Ok}
 use Rattle.inputs.proofs.CheckLaws.{placed_at}
 use Rattle.choices.specs.Choices.{bound_at, lowest_of, lowest_at}
 use Rattle.choices.proofs.BoundLaws.{test_bound}
@@ -72,5 +72,5 @@ module _ (P T : List ℕ) (i : ℕ) where
       (ap (λ (b : ℕ). member b (get_or T (i + j) 0)) (w.agree j l) ∙ w.under j l))
 
 -- what passed the checks has no more sets than the longest pattern has letters
-pub shared_short : (K M N k : ℕ) (P T : List ℕ) (i lent : ℕ) → verdict_at K M N k P T i lent ≡ Passed → length (shared_at P T i) ≤ M
+pub shared_short : (K M N k : ℕ) (P T : List ℕ) (i lent : ℕ) → verdict_at K M N k P T i lent ≡ Ok tt → length (shared_at P T i) ≤ M
 shared_short K M N k P T i lent e = omega (arith, length_shared P T i, (placed_at K M N k P T i lent e).0.pattern.short)

@@ -1,7 +1,8 @@
 // The call made twice.
 ghost use Rattle.std.specs.Prelude.{◌≡◌};
 
-use inputs::twice::Writings;
+use inputs::refusal::Refusal;
+use inputs::twice::Twice;
 
 fn shared_at_twice(
     k: u32,
@@ -10,11 +11,11 @@ fn shared_at_twice(
     start: usize,
     a: &mut [u32],
     b: &mut [u32],
-) -> Writings
+) -> Twice<Result<usize, Refusal>>
     requires { a.old ≡ b.old }
     ensures { (result.first ≡ result.second) × (a.new ≡ b.new) }
 {
     let first = crate::shared_at(k, p, t, start, a);
     let second = crate::shared_at(k, p, t, start, b);
-    Writings { first, second }
+    Twice { first, second }
 }

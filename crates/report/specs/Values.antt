@@ -2,13 +2,10 @@
 --
 --   values_of P T   the values
 --   works_of P T    what each engine counts, in the code's types
---   work_in r       what the answer r of a search counted; nothing where it was refused
 use Rattle.std.specs.Prelude.{ℕ, List, map}
 use Rattle.hits.specs.Hits.{hits}
 use Rattle.hits.specs.Counts.{work_of}
 use Rattle.hits.specs.declared.work.Work.{Work}
-use Rattle.inputs.specs.declared.refusal.Answer.{Answer}
-use Rattle.inputs.specs.declared.refusal.Answer.TheVariants.{Found, Refused}
 use Rattle.engines.specs.declared.engine.Engine.{Engine}
 use Rattle.engines.specs.Engines.{the_six, run_of}
 use Rattle.reportbytes.specs.Values.{Values}
@@ -18,7 +15,3 @@ values_of P T = record { starts = hits P T; runs = map (λ (e : Engine). run_of 
 
 abbrev pub works_of : List ℕ → List ℕ → List Work
 works_of P T = map (λ (e : Engine). work_of (hits P T) (run_of e P T)) the_six
-
-abbrev pub work_in : Answer → Work
-work_in (Found w) = w
-work_in (Refused r) = record { total = 0; scan = 0; shift = 0; steps = 0 }

@@ -10,7 +10,7 @@ use Rattle.hits.specs.Turns.{Run}
 use Rattle.hits.specs.declared.work.Work.{Work}
 use Rattle.decimal.specs.Decimal.{ended}
 use Rattle.engines.specs.declared.engine.Engine.{Engine}
-use Rattle.engines.specs.declared.engine.Engine.TheVariants.{Hybrid}
+use Rattle.engines.specs.declared.engine.Engine.TheVariants.{Brute}
 use Rattle.engines.specs.Engines.{the_six, name_of}
 use Rattle.reportbytes.specs.Values.{Values, run_in}
 use Rattle.reportbytes.specs.Bytes.{start_lines, counts, engine_line, engine_lines, bytes_of}
@@ -39,11 +39,16 @@ module _ (xs : List ℕ) (i : ℕ) where
 
 -- what the engines counted, from i on
 module _ (works : List Work) (i : ℕ) where
-  pub engines_on : (e : Engine) (w : Work) → e ≡ get_or the_six i Hybrid → i < length the_six → length works ≡ length the_six
-      → engine_lines (drop i the_six) (drop i (map run_in works)) ≡ engine_line e (run_in (get_or works i w)) ++ engine_lines (drop (i + 1) the_six) (drop (i + 1) (map run_in works))
+  -- the line of the engine at i
+  abbrev pub line_at : List ℕ
+  line_at = engine_line (get_or the_six i Brute) (run_in (get_or works i (record { total = 0; scan = 0; shift = 0; steps = 0 })))
+
+  pub engines_on : i < length the_six → length works ≡ length the_six
+      → engine_lines (drop i the_six) (drop i (map run_in works)) ≡ line_at ++ engine_lines (drop (i + 1) the_six) (drop (i + 1) (map run_in works))
   unfolding engine_lines
-  engines_on e w q h l =
-      rw (q, add-one i, drop-cons the_six i Hybrid h, drop-cons (map run_in works) i (run_in w) (omega (arith, length-map works run_in)), get_or-map run_in works i w)
+  engines_on h l =
+      let w : Work = record { total = 0; scan = 0; shift = 0; steps = 0 } in
+      rw (add-one i, drop-cons the_six i Brute h, drop-cons (map run_in works) i (run_in w) (omega (arith, length-map works run_in)), get_or-map run_in works i w)
 
   pub engines_end : length the_six ≤ i → engine_lines (drop i the_six) (drop i (map run_in works)) ≡ []
   unfolding engine_lines

@@ -1,4 +1,5 @@
-// How long a report is, before any of it is written.
+// How long a report is, before any of it is written: one that does not fit is refused, and the lent list is left as it was. So each line has its length
+// here and its bytes in `lines`: one function for both would put every byte through a trait, down to the digits, and be no plainer.
 ghost use Rattle.std.specs.Prelude.{◌≡◌, map, ◌*◌, ◌^◌, ◌≤◌, ◌<◌, length};
 ghost use Rattle.decimal.specs.Decimal.{ended};
 ghost use Rattle.engines.specs.Engines.{the_six};
@@ -8,7 +9,6 @@ ghost use Rattle.reportbytes.specs.Values.{run_in, values_in};
 use decimal::len;
 use engines::engine::{Engine, name_len};
 use hits::work::Work;
-use letters::width::wide;
 
 // A number, and the byte after it, whichever it is.
 fn ended_len(n: u64) -> usize
@@ -18,6 +18,7 @@ fn ended_len(n: u64) -> usize
 }
 
 // An engine's three counts, to the end of its line.
+#[tactic(auto, using(crate::proofs::LineLaws::counts_length))]
 fn counts_len(w: Work) -> usize
     ensures { (result ≡ length (counts (run_in w))) × (result ≤ 63) }
 {
@@ -30,32 +31,29 @@ fn starts_len(starts: &[u32]) -> usize
     ensures { (result ≡ length (start_lines starts.now)) × (result ≤ 21 * length starts.now) }
 {
     let mut sum: usize = 0;
-    let mut i: usize = 0;
-    while i < starts.len() {
-        sum += ended_len(wide(starts[i]));
-        i += 1;
+    for &start in starts {
+        sum += ended_len(u64::from(start));
     }
     sum
 }
 
 // The lines of the six engines.
-fn engines_len(works: [Work; Engine::COUNT]) -> usize
-    ensures { (result ≡ length (engine_lines the_six (map run_in works))) × (result < 2 ^ 32) }
+fn engines_len(works: &[Work; Engine::COUNT]) -> usize
+    ensures { (result ≡ length (engine_lines the_six (map run_in works.now))) × (result < 2 ^ 32) }
 {
     let mut sum: usize = 0;
-    let mut i: usize = 0;
-    while i < Engine::COUNT {
-        let w = works[i];
-        sum += name_len(Engine::at(i)) + counts_len(w);
-        i += 1;
+    // By an index: of a zip with the counts the proof is not told which elements it yields.
+    for (i, &e) in Engine::ALL.iter().enumerate() {
+        sum += name_len(e) + counts_len(works[i]);
     }
     sum
 }
 
 // The whole report: the first line has its name and the total.
-pub fn report_len(works: [Work; Engine::COUNT], starts: &[u32]) -> usize
+#[tactic(auto, using(crate::proofs::LineLaws::bytes_length))]
+pub fn report_len(works: &[Work; Engine::COUNT], starts: &[u32]) -> usize
     requires { length starts.now < 2 ^ 32 }
-    ensures { result ≡ length (bytes_of (values_in works starts.now)) }
+    ensures { result ≡ length (bytes_of (values_in works.now starts.now)) }
 {
     5 + ended_len(starts.len() as u64) + starts_len(starts) + engines_len(works)
 }

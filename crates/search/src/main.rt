@@ -5,7 +5,7 @@
 use report::Report;
 use sheet::Sheet;
 use std::io::{Stderr, Stdout};
-use streams::{Got, read_whole, tell, write_whole};
+use streams::{read_whole, tell, write_whole};
 
 // What is printed for the sheet that the first n bytes of the list are.
 fn print(output: &mut Stdout, errors: &mut Stderr, sheet: &[u8; Sheet::MAX_BYTES + 1], n: usize) {
@@ -20,9 +20,9 @@ fn main(rt: HostRuntime) {
     let mut errors = rt.stderr();
     let mut sheet = [0u8; Sheet::MAX_BYTES + 1];
     match read_whole(&mut rt.stdin(), &mut sheet) {
-        Got::Failed(error) => {
+        Ok(n) => print(&mut rt.stdout(), &mut errors, &sheet, n),
+        Err(error) => {
             let _ = tell(&mut errors, "search: cannot read", &error);
         }
-        Got::Bytes(n) => print(&mut rt.stdout(), &mut errors, &sheet, n),
     }
 }

@@ -10,9 +10,9 @@ use Rattle.letters.proofs.Truth.{bool_cases}
 use Rattle.letters.specs.First.{first_with}
 use Rattle.letters.proofs.SizeLaws.{inside_least, inside_most, inside}
 use Rattle.inputs.specs.Refusals.{bad, refuse, verdict}
-use Rattle.inputs.specs.declared.refusal.Check.TheVariants.{Passed}
 use Rattle.inputs.proofs.BadLaws.{good, good_small, good_mark}
 use Rattle.inputs.proofs.CheckLaws.{passed_by, passed_on}
+use Rattle.std.specs.Prelude.{Ok}
 use Rattle.notation.specs.Spelling.{AllProper}
 
 -- no bad letter: all may stand there
@@ -45,7 +45,7 @@ pub record Passing (K M N k : ℕ) (P T : List ℕ) : Type 0 where
   pub text : AllProper true k T
 
 module _ (K M N k : ℕ) (P T : List ℕ) where
-  pub passing : verdict K M N k P T ≡ Passed → Passing K M N k P T
+  pub passing : verdict K M N k P T ≡ Ok tt → Passing K M N k P T
   unfolding verdict
   passing e =
       let e2 = passed_on _ _ _ _ e in
@@ -64,7 +64,7 @@ module _ (K M N k : ℕ) (P T : List ℕ) where
         text = no_bad true k T (ltb-false _ _ (passed_by _ _ _ _ e5));
       }
 
-  pub passes : Passing K M N k P T → verdict K M N k P T ≡ Passed
+  pub passes : Passing K M N k P T → verdict K M N k P T ≡ Ok tt
   unfolding verdict refuse
   passes w =
       rw (

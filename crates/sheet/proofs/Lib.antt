@@ -1,5 +1,4 @@
 pub mod SectionLaws
-pub mod CaseLaws
 pub mod PlanLaws
 pub mod PromiseLaws
 pub mod AcceptLaws

@@ -11,61 +11,64 @@ use lib.Seq.{take_at}
 use Rattle.letters.specs.Sizes.{outside}
 use Rattle.letters.proofs.SizeLaws.{inside_least, inside_most}
 use Rattle.decimal.specs.CountLine.{count_at}
-use Rattle.decimal.specs.declared.count.Count.{Count}
-use Rattle.decimal.specs.declared.count.Count.TheVariants.{Number, Wrong as CountWrong}
+use Rattle.decimal.specs.declared.count.Counted.{Counted}
 use Rattle.decimal.proofs.CountLaws.{count_within}
 use Rattle.notation.specs.Alphabet.{Alphabet, alphabet_at}
 use Rattle.notation.specs.Reader.{out, Read, got, wrong, read_from}
-use Rattle.notation.specs.declared.alphabet.Bytes.{Bytes}
-use Rattle.notation.specs.declared.alphabet.Bytes.TheVariants.{After, Wrong as BytesWrong}
+use Rattle.notation.specs.declared.alphabet.Wrong.{Wrong}
 use Rattle.notation.proofs.AlphabetLaws.{alphabet_read}
 use Rattle.notation.proofs.ReadLaws.{read_in}
-use Rattle.sheet.specs.Reader.{Outcome, found, refusal, refuse_at, and_then, on_count, on_alphabet, on_letters, Section, alphabet_section, letter_line, letter_section, pattern_bounds, text_bounds, text_section, Sections, string_sections, Whole, planning, Strings, reading}
+use Rattle.sheet.specs.Reader.{refuse_at, and_then, on_count, on_alphabet, on_letters, Section, alphabet_section, letter_line, letter_section, pattern_bounds, text_bounds, text_section, Sections, string_sections, Whole, planning, Strings, reading}
+use Rattle.std.specs.Prelude.{Option, None, Some, Result, Ok, Err}
+use Rattle.decimal.specs.CountLine.{counted}
+use Rattle.inputs.specs.declared.refusal.Kind.{Kind}
+use Rattle.inputs.specs.declared.refusal.Kind.TheVariants.{AlphabetSize, Room, SheetLength, LetterCount, Surplus}
+use Rattle.inputs.specs.declared.refusal.Refusal.{Refusal}
 use Rattle.sheet.specs.declared.sections.Bounds.{Bounds}
 
 module _ {A : Type 0} where
-  refuse_found : (b : Bool) (x y : ℕ) (o : Outcome A) (w : A) → refuse_at b x y o ≡ found w → (b ≡ false) × (o ≡ found w)
+  refuse_found : (b : Bool) (x : Kind) (y : ℕ) (o : Result A Refusal) (w : A) → refuse_at b x y o ≡ Ok w → (b ≡ false) × (o ≡ Ok w)
   unfolding refuse_at
   refuse_found true x y o w q = absurd (let z : ◌≡◌ {A = ℕ} 0 1 = cc in omega arith)
   refuse_found false x y o w q = (refl, q)
 
-  count_found : (r : Count) (at : ℕ) (f : ℕ → ℕ → Outcome A) (w : A) → on_count r at f ≡ found w → (v : ℕ) × (e : ℕ) × (r ≡ Number v e) × (f v e ≡ found w)
-  count_found CountWrong at f w q = absurd (let z : ◌≡◌ {A = ℕ} 0 1 = cc in omega arith)
-  count_found (Number v e) at f w q = (v, e, refl, q)
+  count_found : (r : Option Counted) (at : ℕ) (f : ℕ → ℕ → Result A Refusal) (w : A) → on_count r at f ≡ Ok w → (v : ℕ) × (e : ℕ) × (r ≡ Some (counted v e)) × (f v e ≡ Ok w)
+  count_found None at f w q = absurd (let z : ◌≡◌ {A = ℕ} 0 1 = cc in omega arith)
+  count_found (Some c) at f w q = (c.number, c.next, refl, q)
 
-  alphabet_found : (r : Bytes) (f : ℕ → Outcome A) (w : A) → on_alphabet r f ≡ found w → (e : ℕ) × (r ≡ After e) × (f e ≡ found w)
-  alphabet_found (BytesWrong p) f w q = absurd (let z : ◌≡◌ {A = ℕ} 0 1 = cc in omega arith)
-  alphabet_found (After e) f w q = (e, refl, q)
+  alphabet_found : (r : Result ℕ Wrong) (f : ℕ → Result A Refusal) (w : A) → on_alphabet r f ≡ Ok w → (e : ℕ) × (r ≡ Ok e) × (f e ≡ Ok w)
+  alphabet_found (Err p) f w q = absurd (let z : ◌≡◌ {A = ℕ} 0 1 = cc in omega arith)
+  alphabet_found (Ok e) f w q = (e, refl, q)
 
-  letters_found : (r : Read) (f : List ℕ → ℕ → Outcome A) (w : A) → on_letters r f ≡ found w → (cs : List ℕ) × (e : ℕ) × (r ≡ got cs e) × (f cs e ≡ found w)
+  letters_found : (r : Read) (f : List ℕ → ℕ → Result A Refusal) (w : A) → on_letters r f ≡ Ok w → (cs : List ℕ) × (e : ℕ) × (r ≡ got cs e) × (f cs e ≡ Ok w)
   letters_found (wrong p) f w q = absurd (let z : ◌≡◌ {A = ℕ} 0 1 = cc in omega arith)
   letters_found (got cs e) f w q = (cs, e, refl, q)
 
-then_found : {A B : Type 0} (o : Outcome A) (f : A → Outcome B) (w : B) → and_then o f ≡ found w → (x : A) × (o ≡ found x) × (f x ≡ found w)
-then_found (refusal x y) f w q = absurd (let z : ◌≡◌ {A = ℕ} 0 1 = cc in omega arith)
-then_found (found x) f w q = (x, refl, q)
+then_found : {A B : Type 0} (o : Result A Refusal) (f : A → Result B Refusal) (w : B) → and_then o f ≡ Ok w → (x : A) × (o ≡ Ok x) × (f x ≡ Ok w)
+then_found (Err r) f w q = absurd (let z : ◌≡◌ {A = ℕ} 0 1 = cc in omega arith)
+then_found (Ok x) f w q = (x, refl, q)
 
 pub record AlphabetFound (K room : ℕ) (s : List ℕ) (w : Section) : Type 0 where
-  pub counted : count_at 0 s ≡ Number (length w.string) w.from
+  pub counted : count_at 0 s ≡ Some (counted (length w.string) w.from)
   pub some : 0 < length w.string
   pub few : length w.string ≤ K
-  pub listed : alphabet_at (length w.string) w.from (drop w.from s) ≡ After w.next
+  pub listed : alphabet_at (length w.string) w.from (drop w.from s) ≡ Ok w.next
   pub fits : length w.string ≤ room
   pub part : w.string ≡ take (length w.string) (drop w.from s)
   pub right : Alphabet w.string
   pub within : w.from + length w.string < length s
   pub next : w.next ≤ length s
 
-pub alphabet_section_found : (K room : ℕ) (s : List ℕ) (w : Section) → alphabet_section K room s ≡ found w → AlphabetFound K room s w
+pub alphabet_section_found : (K room : ℕ) (s : List ℕ) (w : Section) → alphabet_section K room s ≡ Ok w → AlphabetFound K room s w
 unfolding alphabet_section
 alphabet_section_found K room s w q =
     let c = count_found (count_at 0 s) 0 _ w q in
     let k = c.0 in
     let a = c.1 in
-    let d = refuse_found (outside 1 K k) 1 0 _ w c.3 in
+    let d = refuse_found (outside 1 K k) AlphabetSize 0 _ w c.3 in
     let l = alphabet_found (alphabet_at k a (drop a s)) _ w d.1 in
     let e = l.0 in
-    let r = refuse_found (ltb room k) 8 0 _ w l.2 in
+    let r = refuse_found (ltb room k) Room 0 _ w l.2 in
     let is : record { string = take k (drop a s); from = a; next = e } ≡ w = cc in
     let lo = inside_least 1 K k d.0 in
     let hi = inside_most 1 K k d.0 in
@@ -78,7 +81,7 @@ alphabet_section_found K room s w q =
     let sl = ap length L.split ∙ length-append L.bytes (10 ∷ L.rest) in
     subst (AlphabetFound K room s) is
     (record {
-      counted = c.2 ∙ ap (λ (x : ℕ). Number x a) (sym n);
+      counted = c.2 ∙ ap (λ (x : ℕ). Some (counted x a)) (sym n);
       some = omega arith;
       few = omega arith;
       listed = ap (λ (x : ℕ). alphabet_at x a (drop a s)) n ∙ l.1;
@@ -120,7 +123,7 @@ module _ {K room : ℕ} {s : List ℕ} {w : Section} (f : AlphabetFound K room s
       }
 
 pub record LettersFound (A : List ℕ) (b : Bounds) (s : List ℕ) (at : ℕ) (w : Section) : Type 0 where
-  pub counted : count_at at (drop at s) ≡ Number (length w.string) w.from
+  pub counted : count_at at (drop at s) ≡ Some (counted (length w.string) w.from)
   pub low : b.least ≤ length w.string
   pub high : length w.string ≤ b.most
   pub reads : read_from b.marks A out w.from (drop w.from s) ≡ got w.string w.next
@@ -128,24 +131,24 @@ pub record LettersFound (A : List ℕ) (b : Bounds) (s : List ℕ) (at : ℕ) (w
   pub within : w.from ≤ length s
   pub next : w.next ≤ length s
 
-pub letter_section_found : (A : List ℕ) (b : Bounds) (s : List ℕ) (at : ℕ) (w : Section) → at ≤ length s → letter_section A b s at ≡ found w → LettersFound A b s at w
+pub letter_section_found : (A : List ℕ) (b : Bounds) (s : List ℕ) (at : ℕ) (w : Section) → at ≤ length s → letter_section A b s at ≡ Ok w → LettersFound A b s at w
 unfolding letter_section letter_line
 letter_section_found A b s at w h q =
     let c = count_found (count_at at (drop at s)) at _ w q in
     let m = c.0 in
     let p = c.1 in
-    let d = refuse_found (outside b.least b.most m) b.number at _ w c.3 in
+    let d = refuse_found (outside b.least b.most m) b.kind at _ w c.3 in
     let l = letters_found (read_from b.marks A out p (drop p s)) _ w d.1 in
     let cs = l.0 in
     let e = l.1 in
-    let f = refuse_found (not (eqb (length cs) m)) 14 at _ w l.3 in
-    let r = refuse_found (ltb b.room m) 8 0 _ w f.1 in
+    let f = refuse_found (not (eqb (length cs) m)) LetterCount at _ w l.3 in
+    let r = refuse_found (ltb b.room m) Room 0 _ w f.1 in
     let is : record { string = cs; from = p; next = e } ≡ w = cc in
     let n : length cs ≡ m = eqb-true (length cs) m (not-false (eqb (length cs) m) f.0) in
     let pe = count_within at s m p h c.2 in
     subst (LettersFound A b s at) is
     (record {
-      counted = c.2 ∙ ap (λ (x : ℕ). Number x p) (sym n);
+      counted = c.2 ∙ ap (λ (x : ℕ). Some (counted x p)) (sym n);
       low = omega (arith, inside_least b.least b.most m d.0);
       high = omega (arith, inside_most b.least b.most m d.0);
       reads = l.2;
@@ -160,7 +163,7 @@ pub record BothFound (M N : ℕ) (A : List ℕ) (roomP roomT : ℕ) (s : List �
   pub end : w.text.next ≡ length s
 
 pub string_sections_found : (M N : ℕ) (A : List ℕ) (roomP roomT : ℕ) (s : List ℕ) (at : ℕ) (w : Sections) → at ≤ length s
-    → string_sections M N A roomP roomT s at ≡ found w → BothFound M N A roomP roomT s at w
+    → string_sections M N A roomP roomT s at ≡ Ok w → BothFound M N A roomP roomT s at w
 unfolding string_sections text_section
 string_sections_found M N A roomP roomT s at w h q =
     let x = then_found (letter_section A (pattern_bounds M roomP) s at) _ w q in
@@ -169,7 +172,7 @@ string_sections_found M N A roomP roomT s at w h q =
     let u = y.0 in
     let v = then_found (letter_section A (text_bounds N roomT) s p.next) _ u y.1 in
     let t = v.0 in
-    let z = refuse_found (ltb t.next (length s)) 15 t.next _ u v.2 in
+    let z = refuse_found (ltb t.next (length s)) Surplus t.next _ u v.2 in
     let is : record { pattern = p; text = t } ≡ w = cc in
     let P = letter_section_found A (pattern_bounds M roomP) s at p h x.1 in
     let T = letter_section_found A (text_bounds N roomT) s p.next t P.next v.1 in
@@ -182,10 +185,10 @@ pub record WholeFound (B K M N roomA roomP roomT : ℕ) (s : List ℕ) (w : Whol
   pub alphabet : AlphabetFound K roomA s w.alphabet
   pub both : BothFound M N w.alphabet.string roomP roomT s w.alphabet.next (record { pattern = w.pattern; text = w.text })
 
-pub planning_found : (B K M N roomA roomP roomT : ℕ) (s : List ℕ) (w : Whole) → planning B K M N roomA roomP roomT s ≡ found w → WholeFound B K M N roomA roomP roomT s w
+pub planning_found : (B K M N roomA roomP roomT : ℕ) (s : List ℕ) (w : Whole) → planning B K M N roomA roomP roomT s ≡ Ok w → WholeFound B K M N roomA roomP roomT s w
 unfolding planning
 planning_found B K M N roomA roomP roomT s w q =
-    let b = refuse_found (ltb B (length s)) 10 0 _ w q in
+    let b = refuse_found (ltb B (length s)) SheetLength 0 _ w q in
     let x = then_found (alphabet_section K roomA s) _ w b.1 in
     let a = x.0 in
     let A = alphabet_section_found K roomA s a x.1 in
@@ -205,7 +208,7 @@ pub record ReadFound (B K M N : ℕ) (d : Strings) (s : List ℕ) (w : Strings) 
   pub sections : WholeFound B K M N (length d.alphabet) (length d.pattern) (length d.text) s whole
   pub is : record { alphabet = whole.alphabet.string; pattern = whole.pattern.string; text = whole.text.string } ≡ w
 
-pub reading_found : (B K M N : ℕ) (d : Strings) (s : List ℕ) (w : Strings) → reading B K M N d s ≡ found w → ReadFound B K M N d s w
+pub reading_found : (B K M N : ℕ) (d : Strings) (s : List ℕ) (w : Strings) → reading B K M N d s ≡ Ok w → ReadFound B K M N d s w
 unfolding reading
 reading_found B K M N d s w q =
     let x = then_found (planning B K M N (length d.alphabet) (length d.pattern) (length d.text) s) _ w q in
@@ -213,5 +216,5 @@ reading_found B K M N d s w q =
     record {
       whole = v;
       sections = planning_found B K M N _ _ _ s v x.1;
-      is = (let e : found (record { alphabet = v.alphabet.string; pattern = v.pattern.string; text = v.text.string }) ≡ found w = x.2 in cc);
+      is = (let e : Ok (record { alphabet = v.alphabet.string; pattern = v.pattern.string; text = v.text.string }) ≡ Ok w = x.2 in cc);
     }

@@ -1,8 +1,7 @@
 -- A right sheet: the bytes of strings that are accepted. Three sections in a fixed order, each after its count: alphabet, pattern, text.
-use Rattle.std.specs.Prelude.{ℕ, ◌≤◌, ◌≡◌, List, ◌∷◌, ◌++◌, length}
+use Rattle.std.specs.Prelude.{ℕ, ◌≤◌, ◌≡◌, List, ◌∷◌, ◌++◌, length, Ok}
 use Rattle.decimal.specs.Decimal.{decimal}
 use Rattle.inputs.specs.Refusals.{verdict}
-use Rattle.inputs.specs.declared.refusal.Check.TheVariants.{Passed}
 use Rattle.notation.specs.Alphabet.{Alphabet}
 use Rattle.notation.specs.Spelling.{line}
 
@@ -14,7 +13,7 @@ sheet_bytes A P T =
 -- an alphabet, with strings that pass the checks of a search, whose sheet is not too long. B, K, M and N are the largest sheet, k, m and n
 pub record Accepted (B K M N : ℕ) (A P T : List ℕ) : Type 0 where
   pub alphabet : Alphabet A
-  pub passed : verdict K M N (length A) P T ≡ Passed
+  pub passed : verdict K M N (length A) P T ≡ Ok tt
   pub fits : length (sheet_bytes A P T) ≤ B
 
 pub record RightSheet (B K M N : ℕ) (s : List ℕ) : Type 0 where

@@ -5,35 +5,31 @@ ghost use Rattle.codes.specs.Codes.{code_of};
 ghost use Rattle.sheet.specs.Called.{taken_check, sizes_over, ReadCalled};
 
 use crate::measure::measure;
-use crate::{Sheet, Taken, read};
+use crate::{Sheet, Sizes, read};
 use codes::refusal_code;
-use inputs::refusal::Refusal;
+use inputs::refusal::{Kind, Refusal};
 use letters::letter::Letter;
 use letters::strings::{Pattern, Text};
-use letters::width::wide;
 
 // What is told where too few sizes are lent: 8, after all other checks.
-fn short(a: Taken) -> i64
-    ensures { result ≡ code_of (with_room 1 0 (taken_check a)) 0 }
+fn short(answer: Result<Sizes, Refusal>) -> i64
+    ensures { result ≡ code_of (with_room 1 0 (taken_check answer)) 0 }
 {
-    match a {
-        Taken::Refused(r) => refusal_code(r),
-        Taken::Read(_) => refusal_code(Refusal {
-            number: 8,
-            place: 0,
-        }),
+    match answer {
+        Err(r) => refusal_code(r),
+        Ok(_) => refusal_code(Kind::Room.at(0)),
     }
 }
 
 // What is told of the answer; the sizes go into lent memory.
-fn sized(a: Taken, sizes: &mut [u64]) -> i64
+fn sized(answer: Result<Sizes, Refusal>, sizes: &mut [u64]) -> i64
     requires { 2 < length sizes.old }
-    ensures { (result ≡ code_of (taken_check a) 0) × (sizes.new ≡ sizes_over a sizes.old) }
+    ensures { (result ≡ code_of (taken_check answer) 0) × (sizes.new ≡ sizes_over answer sizes.old) }
 {
-    match a {
-        Taken::Refused(r) => refusal_code(r),
-        Taken::Read(z) => {
-            sizes[0] = wide(z.k);
+    match answer {
+        Err(r) => refusal_code(r),
+        Ok(z) => {
+            sizes[0] = u64::from(z.k);
             sizes[1] = z.m as u64;
             sizes[2] = z.n as u64;
             0

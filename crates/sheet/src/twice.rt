@@ -3,13 +3,9 @@ ghost use Rattle.std.specs.Prelude.{◌≡◌};
 ghost use Rattle.sheet.specs.Answers.{Same};
 
 use crate::measure::measure;
-use crate::{Taken, read};
-
-#[derive(Drop)]
-struct Takens {
-    first: Taken,
-    second: Taken,
-}
+use crate::{Sizes, read};
+use inputs::refusal::Refusal;
+use inputs::twice::Twice;
 
 // Into the lists a, p, t, and again into b, q, u.
 fn read_twice(
@@ -20,19 +16,24 @@ fn read_twice(
     b: &mut [u8],
     q: &mut [u32],
     u: &mut [u32],
-) -> Takens
+) -> Twice<Result<Sizes, Refusal>>
     requires { Same a.old p.old t.old b.old q.old u.old }
     ensures { (result.first ≡ result.second) × Same a.new p.new t.new b.new q.new u.new }
 {
     let first = read(sheet, a, p, t);
     let second = read(sheet, b, q, u);
-    Takens { first, second }
+    Twice { first, second }
 }
 
-fn measure_twice(sheet: &[u8], alphabet: &[u8], pattern: &[u32], text: &[u32]) -> Takens
+fn measure_twice(
+    sheet: &[u8],
+    alphabet: &[u8],
+    pattern: &[u32],
+    text: &[u32],
+) -> Twice<Result<Sizes, Refusal>>
     ensures { result.first ≡ result.second }
 {
     let first = measure(sheet, alphabet, pattern, text);
     let second = measure(sheet, alphabet, pattern, text);
-    Takens { first, second }
+    Twice { first, second }
 }

@@ -6,11 +6,11 @@
 --   shiftand_run      the run over all letters
 --   word_turn_of P r   the turn that a step of the code stands for
 --   StepsAre P T r   the number of word steps that the answer r has
-use Rattle.std.specs.Prelude.{ℕ, ◌+◌, ◌-◌, ◌≤◌, ◌≡◌, Bool, ◌&&◌, List, [], leb, ltb, length, get_or}
+use Rattle.std.specs.Prelude.{ℕ, ◌+◌, ◌-◌, ◌≤◌, ◌≡◌, Bool, ◌&&◌, List, [], leb, ltb, length, get_or, Result, Ok, Err}
 use Rattle.letters.specs.Members.{keep}
 use Rattle.hits.specs.Turns.{Turn, Run, run}
-use Rattle.inputs.specs.declared.refusal.Answer.{Answer}
-use Rattle.inputs.specs.declared.refusal.Answer.TheVariants.{Found, Refused}
+use Rattle.hits.specs.declared.work.Work.{Work}
+use Rattle.inputs.specs.declared.refusal.Refusal.{Refusal}
 use Rattle.word.specs.Word.{stepped, is_set}
 use Rattle.shiftand.specs.declared.WordTurned.{WordTurned}
 
@@ -57,6 +57,6 @@ word_turn_of P r =
     }
 
 -- n in all when m is at most n; nothing is asked of a refusal
-abbrev pub StepsAre : List ℕ → List ℕ → Answer → Type 0
-StepsAre P T (Refused r) = Unit {0}
-StepsAre P T (Found w) = length P ≤ length T → w.steps ≡ length T
+abbrev pub StepsAre : List ℕ → List ℕ → Result Work Refusal → Type 0
+StepsAre P T (Err r) = Unit {0}
+StepsAre P T (Ok w) = length P ≤ length T → w.steps ≡ length T

@@ -8,96 +8,81 @@
 // 4. A pattern longer than the text takes no step.
 #![tactic(auto)]
 
-pub mod c;
 mod twice;
 
-ghost use Rattle.std.specs.Prelude.{◌≡◌, ◌≤◌, ◌<◌, length};
-ghost use Rattle.letters.specs.Sizes.{SizedPattern, Sized};
-ghost use Rattle.hits.specs.Hits.{hits};
-ghost use Rattle.lent.specs.Over.{over};
-ghost use Rattle.hits.specs.Counts.{work_of};
-ghost use Rattle.pattern.specs.Tables.{MaskTable};
+ghost use Rattle.std.specs.Prelude.{◌≡◌, ◌≤◌, ◌<◌, ◌^◌, ℕ, List, length, get_or};
 ghost use Rattle.inputs.specs.Answers.{Searched, scan_of, shift_of, steps_of};
 ghost use Rattle.shiftand.specs.ShiftAnd.{shiftand_turn, shiftand_run, word_turn_of, StepsAre};
 
 use hits::work::Work;
-use inputs::checks::checked;
-use inputs::refusal::{Answer, Check};
+use inputs::refusal::Refusal;
+use inputs::rule::Rule;
 use letters::letter::Letter;
 use letters::strings::{Pattern, Text};
 use pattern::masks::Masks;
-use word::{advance, is_set, note_end};
+use word::masked::Masked;
+use word::note_end;
 
-#[derive(Drop)]
+#[derive(Clone, Copy)]
 struct WordTurned {
     hit: bool,
     read: usize,
     word: u64,
 }
 
-// A turn: the text letter at `read`, from the state `word`.
-fn step(
-    p: &[u32],
-    rows: &[u64; Letter::MAX_K as usize],
-    t: &[u32],
-    read: usize,
-    word: u64,
-) -> WordTurned
-    requires { SizedPattern Pattern.MAX_M p.now × (read < length t.now) × MaskTable Letter.MAX_K p.now rows.now }
-    ensures { word_turn_of p.now result ≡ shiftand_turn p.now t.now (record { read = read; word = word }) }
+// A turn: the text letter c, which stands at `read`, from the state `word`.
+fn step(pattern: &Masked<'_>, c: u32, read: usize, word: u64) -> WordTurned
+    requires { read < 2 ^ 32 }
+    ensures { (t : List ℕ) → get_or t read 0 ≡ c → word_turn_of pattern.now result ≡ shiftand_turn pattern.now t (record { read = read; word = word }) }
 {
-    let next = advance(rows, t[read], word);
+    let next = pattern.step(c, word);
     WordTurned {
-        hit: is_set(next, p.len() - 1),
+        hit: pattern.ends(next),
         read: read + 1,
         word: next,
     }
 }
 
-// The run over all letters.
-fn run(p: &[u32], t: &[u32], list: &mut [u32]) -> Work
-    requires { Sized Pattern.MAX_M Text.MAX_N p.now t.now }
-    ensures { (result ≡ work_of (hits p.now t.now) (shiftand_run p.now t.now)) × (list.new ≡ over (hits p.now t.now) list.old) }
-{
-    let m = p.len();
-    let n = t.len();
-    if n < m {
-        return Work {
-            total: 0,
+#[derive(Clone, Copy, Debug, PartialEq, Eq)]
+pub struct ShiftAnd;
+
+impl Rule for ShiftAnd {
+    ghost turns = { shiftand_run };
+
+    // The run over all letters.
+    fn run(p: &[u32], t: &[u32], list: &mut [u32]) -> Work {
+        let m = p.len();
+        if t.len() < m {
+            return Work {
+                total: 0,
+                scan: 0,
+                shift: 0,
+                steps: 0,
+            };
+        }
+        let masks = Masks::of(p);
+        let pattern = Masked::of(p, &masks);
+        let mut word: u64 = 0;
+        let mut total = 0;
+        for (read, &c) in t.iter().enumerate() {
+            let s = step(&pattern, c, read, word);
+            total = note_end(list, total, s.read, m, s.hit);
+            word = s.word;
+        }
+        Work {
+            total,
             scan: 0,
             shift: 0,
-            steps: 0,
-        };
-    }
-    let masks = Masks::of(p);
-    let rows = masks.rows;
-    let mut read = 0;
-    let mut word: u64 = 0;
-    let mut total = 0;
-    let mut steps: u64 = 0;
-    while read < n {
-        let s = step(p, &rows, t, read, word);
-        total = note_end(list, total, s.read, m, s.hit);
-        steps += 1;
-        word = s.word;
-        read = s.read;
-    }
-    Work {
-        total,
-        scan: 0,
-        shift: 0,
-        steps,
+            steps: t.len() as u64,
+        }
     }
 }
 
 // Every start at which the pattern meets the text, by ShiftAnd.
-pub fn search(k: u32, p: &[u32], t: &[u32], list: &mut [u32]) -> Answer
+pub fn search(k: u32, p: &[u32], t: &[u32], list: &mut [u32]) -> Result<Work, Refusal>
     ensures promise { Searched shiftand_run Letter.MAX_K Pattern.MAX_M Text.MAX_N k p.now t.now list.old result list.new }
     ensures bound { (scan_of result ≡ 0) × (shift_of result ≡ 0) × (steps_of result ≤ length t.now) }
     ensures steps { StepsAre p.now t.now result }
 {
-    match checked(k, p, t) {
-        Check::Refused(r) => Answer::Refused(r),
-        Check::Passed => Answer::Found(run(p, t, list)),
-    }
+    inputs::rule::search::<ShiftAnd>(k, p, t, list)
 }

@@ -8,6 +8,7 @@ use native.Mathlib.Numerals.{add-one}
 use native.Mathlib.Omega.{arith}
 use borrow.Author.Tests.{ltb-true, ltb-false, leb-true, leb-false}
 use lib.Dec.{leb, ltb}
+use Rattle.std.specs.Prelude.{Option, Some, None, MatchOption, unwrap_or}
 use Rattle.letters.proofs.Truth.{bool_cases, both_ways}
 use Rattle.shifts.specs.Least.{least}
 
@@ -117,9 +118,6 @@ module _ (b : ℕ → Bool) where
     pub top : x ≤ m
     pub ahead : least b from (m - from) ≡ least b x (m - x)
 
-  pub seek_start : (m from : ℕ) → from ≤ m → Seeking m from from
-  seek_start m from l = record { low = omega arith; top = l; ahead = refl }
-
   module _ {m from x : ℕ} (q : Seeking m from x) where
     pub seek_here : b x ≡ true → x ≡ least b from (m - from)
     seek_here e = sym (q.ahead ∙ least_here b x (m - x) e)
@@ -132,3 +130,13 @@ module _ (b : ℕ → Bool) where
     pub seek_end : m ≤ x → x ≡ least b from (m - from)
     unfolding least
     seek_end l = let z : m - x ≡ 0 = omega arith in sym (q.ahead ∙ rw z)
+
+  -- what a search from `from` to m has found, m where that is none
+  pub least_found : (m from : ℕ) (r : Option ℕ) → from ≤ m
+      → MatchOption r ((j : ℕ) → from ≤ j → j < m → b j ≡ false) (λ s. (from ≤ s) × (s < m) × (b s ≡ true) × ((j : ℕ) → from ≤ j → j < s → b j ≡ false))
+      → unwrap_or r m ≡ least b from (m - from)
+  unfolding least
+  least_found m from (Some s) l e = sym (least_is b from (m - from) s e.0 (omega arith) e.3 e.2)
+  least_found m from None l e =
+      let z : from + (m - from) - m ≡ 0 = omega arith in
+      sym (least_skip from (m - from) m l (omega arith) e ∙ rw z)

@@ -1,36 +1,16 @@
 // What KMP and BM share: the scan of a stretch, and the shift found by trying.
 #![tactic(auto)]
 
-ghost use Rattle.std.specs.Prelude.{◌≡◌, min, max, ◌+◌, ◌-◌, ◌^◌, ◌≤◌, ◌<◌, length};
+ghost use Rattle.std.specs.Prelude.{◌≡◌, ◌+◌, ◌-◌, ◌^◌, ◌≤◌, ◌<◌, length};
 ghost use Rattle.shifts.specs.Least.{least};
 ghost use Rattle.shifts.specs.Shift.{fit, trials};
 
 use hits::scan::reach_to;
-use hits::work::count;
 
-#[derive(Clone, Copy)]
+#[derive(Clone, Copy, Debug, PartialEq, Eq)]
 pub struct Trials {
     pub by: usize,
     pub tests: u64,
-}
-
-// What a leaves above b.
-pub fn less(a: usize, b: usize) -> usize
-    ensures { result ≡ a - b }
-{
-    if b <= a { a - b } else { 0 }
-}
-
-pub fn smaller(a: usize, b: usize) -> usize
-    ensures { result ≡ min a b }
-{
-    if a < b { a } else { b }
-}
-
-pub fn larger(a: usize, b: usize) -> usize
-    ensures { result ≡ max a b }
-{
-    if a < b { b } else { a }
 }
 
 // The least shift that fits, by trying s = 1, 2, ..: letters lo to hi - 1 of p meet t at start i.
@@ -40,21 +20,19 @@ pub fn try_shifts(p: &[u32], t: &[u32], i: usize, lo: usize, hi: usize) -> Trial
 {
     let n = t.len();
     let m = p.len();
-    let mut s: usize = 1;
     let mut tests: u64 = 0;
-    while s < hi {
+    for s in 1..hi {
         let at = i + s;
         if n < at + m {
             return Trials { by: s, tests };
         }
-        let a = less(lo, s);
+        let a = lo.saturating_sub(s);
         let b = hi - s;
         let r = reach_to(p, t, at, a, b);
-        tests += (r - a) as u64 + count(r < b);
+        tests += (r - a) as u64 + u64::from(r < b);
         if r == b {
             return Trials { by: s, tests };
         }
-        s += 1;
     }
-    Trials { by: s, tests }
+    Trials { by: hi, tests }
 }

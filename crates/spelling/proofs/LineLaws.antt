@@ -52,35 +52,33 @@ module _ (A : List ℕ) (c : ℕ) (h : c < 2 ^ length A) where
     pub ones_part : (ones c ≡ length A → ⊥) → spell A c ≡ 91 ∷ (pick A c ++ (93 ∷ []))
     ones_part m = spell_part A c (omega (arith, ones_pick A c h)) (λ z. m (ones_pick A c h ∙ z))
 
--- the bytes of c's members among the last f letters
+-- the bytes of c's members from the letter b on
 module _ (A : List ℕ) (c : ℕ) where
-  unfoldable pub last_of : ℕ → List ℕ
-  last_of f = map (λ b. get_or A b 0) (members_from c (length A - f) f)
+  unfoldable pub rest_of : ℕ → List ℕ
+  rest_of b = map (λ i. get_or A i 0) (members_from c b (length A - b))
 
-  pub last_all : last_of (length A) ≡ pick A c
-  unfolding last_of pick members
-  last_all = let z : length A - length A ≡ 0 = omega arith in rw z
+  pub rest_all : rest_of 0 ≡ pick A c
+  unfolding rest_of pick members
+  rest_all = let z : length A - 0 ≡ length A = omega arith in rw z
 
-  pub last_none : (f : ℕ) → f ≡ 0 → last_of f ≡ []
-  unfolding last_of members_from
-  last_none f e = rw e
+  pub rest_none : (b : ℕ) → length A ≤ b → rest_of b ≡ []
+  unfolding rest_of members_from
+  rest_none b h = let z : length A - b ≡ 0 = omega arith in rw z
 
-  module _ (f : ℕ) (p : 0 < f) (h : f ≤ length A) where
-    on : last_of f ≡ map (λ b. get_or A b 0) (keep (member (length A - f) c) (length A - f) (members_from c (length A - (f - 1)) (f - 1)))
-    unfolding last_of members_from
+  module _ (b : ℕ) (h : b < length A) where
+    on : rest_of b ≡ map (λ i. get_or A i 0) (keep (member b c) b (members_from c (b + 1) (length A - (b + 1))))
+    unfolding rest_of members_from
     on =
-        let e : f ≡ suc (f - 1) = omega arith in
-        let n : suc (length A - f) ≡ length A - (f - 1) = omega arith in
-        ap (λ (x : ℕ). map (λ b. get_or A b 0) (members_from c (length A - f) x)) e
-        ∙ ap (λ (x : ℕ). map (λ b. get_or A b 0) (keep (member (length A - f) c) (length A - f) (members_from c x (f - 1)))) n
+        let e : length A - b ≡ suc (length A - (b + 1)) = omega arith in
+        rw (e, add-one b)
 
-    pub last_has : true ≡ member (length A - f) c → last_of f ≡ get_or A (length A - f) 0 ∷ last_of (f - 1)
-    unfolding last_of
-    last_has e = on ∙ rw (← e)
+    pub rest_has : true ≡ member b c → rest_of b ≡ get_or A b 0 ∷ rest_of (b + 1)
+    unfolding rest_of
+    rest_has e = on ∙ rw (← e)
 
-    pub last_not : false ≡ member (length A - f) c → last_of f ≡ last_of (f - 1)
-    unfolding last_of
-    last_not e = on ∙ rw (← e)
+    pub rest_not : false ≡ member b c → rest_of b ≡ rest_of (b + 1)
+    unfolding rest_of
+    rest_not e = on ∙ rw (← e)
 
 pub line_at : (A cs : List ℕ) (i : ℕ) → i < length cs → line A (drop i cs) ≡ spell A (get_or cs i 0) ++ line A (drop (i + 1) cs)
 unfolding line
@@ -89,6 +87,9 @@ line_at A cs i h = rw (drop-cons cs i 0 h, add-one i)
 pub line_at_end : (A cs : List ℕ) (i : ℕ) → i ≡ length cs → line A (drop i cs) ≡ 10 ∷ []
 unfolding line
 line_at_end A cs i e = ap (λ (j : ℕ). line A (drop j cs)) e ∙ rw (drop-length cs)
+
+pub line_step : (A cs : List ℕ) (i : ℕ) → i < length cs → length (line A (drop i cs)) ≡ length (spell A (get_or cs i 0)) + length (line A (drop (i + 1) cs))
+line_step A cs i h = ap length (line_at A cs i h) ∙ length-append (spell A (get_or cs i 0)) (line A (drop (i + 1) cs))
 
 -- ---- how long they are, at least and at most
 pub line_some : (A cs : List ℕ) → 0 < length (line A cs)

@@ -9,21 +9,17 @@ ghost use Rattle.notation.specs.Spelling.{pick, spell, line};
 use lent::put_byte;
 use letters::letter::Letter;
 
-// Writes the bytes of c's members, ascending.
+// Writes the bytes of c's members, ascending. The bound on the alphabet is for the cast of b; a type that carried it would be made for each call.
 pub fn put_members(alphabet: &[u8], c: u32, out: &mut [u8], at: usize) -> usize
     requires { (length alphabet.now < 2 ^ 32) × (at + length (pick alphabet.now c) ≤ length out.old) }
     ensures { Stored out.old at (pick alphabet.now c) result out.new }
 {
-    let k = alphabet.len();
-    let mut left = k;
     let mut e = at;
-    while 0 < left {
-        let b = k - left;
-        if Letter::of(c).has(b as u32) {
+    for b in 0..alphabet.len() {
+        if Letter::from(c).has(b as u32) {
             out[e] = alphabet[b];
             e += 1;
         }
-        left -= 1;
     }
     e
 }
@@ -33,11 +29,8 @@ pub fn letter_len(alphabet: &[u8], c: u32) -> usize
     requires { (length alphabet.now < 2 ^ 32) × (c < 2 ^ length alphabet.now) }
     ensures { result ≡ length (spell alphabet.now c) }
 {
-    let ones = u32::count_ones(c) as usize;
-    if ones <= 1 {
-        return 1;
-    }
-    if ones == alphabet.len() {
+    let ones = c.count_ones() as usize;
+    if ones <= 1 || ones == alphabet.len() {
         return 1;
     }
     ones + 2
@@ -48,7 +41,7 @@ pub fn put_letter(alphabet: &[u8], c: u32, out: &mut [u8], at: usize) -> usize
     requires { (length alphabet.now < 2 ^ 32) × (c < 2 ^ length alphabet.now) × (at + length (spell alphabet.now c) ≤ length out.old) }
     ensures { Stored out.old at (spell alphabet.now c) result out.new }
 {
-    let n = u32::count_ones(c) as usize;
+    let n = c.count_ones() as usize;
     if n == 0 {
         return put_byte(out, at, b'|');
     }
@@ -69,10 +62,8 @@ pub fn line_len(alphabet: &[u8], letters: &[u32]) -> usize
     ensures { result ≡ length (line alphabet.now letters.now) }
 {
     let mut n: usize = 1;
-    let mut j: usize = 0;
-    while j < letters.len() {
-        n += letter_len(alphabet, letters[j]);
-        j += 1;
+    for &c in letters {
+        n += letter_len(alphabet, c);
     }
     n
 }
@@ -83,10 +74,9 @@ pub fn put_line(alphabet: &[u8], letters: &[u32], out: &mut [u8], at: usize) -> 
     ensures { Stored out.old at (line alphabet.now letters.now) result out.new }
 {
     let mut e = at;
-    let mut i: usize = 0;
-    while i < letters.len() {
+    // An index, since the must-fail edit `every_other_letter_written` of this crate steps it.
+    for i in 0..letters.len() {
         e = put_letter(alphabet, letters[i], out, e);
-        i += 1;
     }
     put_byte(out, e, b'\n')
 }

@@ -29,8 +29,5 @@ fn spelled(error: &Error, room: &mut [u8; ROOM]) -> usize
 
 // "Is a directory (os error 21)" is told as "Is a directory".
 fn without_number(text: &str) -> &str {
-    match text.rsplit_once(" (os error ") {
-        Some((why, _)) => why,
-        None => text,
-    }
+    text.rsplit_once(" (os error ").map_or(text, |(why, _)| why)
 }

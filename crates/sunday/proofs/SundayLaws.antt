@@ -12,11 +12,11 @@ use Rattle.letters.specs.Sizes.{Sized}
 use Rattle.letters.proofs.Truth.{bool_cases}
 use Rattle.hits.specs.Hits.{within, hit_at, hits}
 use Rattle.hits.specs.Turns.{Turn, Run, idle}
-use Rattle.hits.specs.Counts.{turn_of}
-use Rattle.hits.specs.declared.work.Turned.{Turned}
 use Rattle.hits.proofs.HitLaws.{no_hit, one_from}
 use Rattle.hits.proofs.ScanLaws.{scan_hit, tests_le}
-use Rattle.hits.proofs.RunLaws.{Sound, finds_all, Passing, by_start, per_start, no_start, start_small}
+use Rattle.hits.proofs.RunLaws.{Sound, finds_all, by_start, per_start, no_start, start_small}
+use Rattle.inputs.specs.Starts.{Settling}
+use Rattle.inputs.proofs.StartLaws.{passing}
 use Rattle.pattern.specs.Last.{after_r}
 use Rattle.pattern.proofs.LastLaws.{last_above, r_le}
 use Rattle.sunday.specs.Sunday.{next_start, sunday_turn, sunday_run}
@@ -67,25 +67,19 @@ module _ (P T : List ℕ) where
           (λ n. let z = next_on (eqb-false _ _ n) in passed j u (let w = r_le P (get_or T (i + length P) 0) in omega arith))
 
   -- each turn settles the starts that it passes
-  pub passing : Passing P T (sunday_turn P T)
+  pub settles : Settling P T (sunday_turn P T)
   unfolding sunday_turn
-  passing i l =
+  settles i l =
       let g = next_gt i l in
       record {
-        falls = omega arith;
-        still = tt;
-        gap = suc (next_start P T i - suc i);
+        more = next_start P T i - suc i;
         moved = omega arith;
+        near = next_le i l;
         right = ap (λ b. keep b i []) (scan_hit P T i l) ∙ sym (one_from P T (next_start P T i - suc i) i (λ j u v. next_passes i l j u (omega arith)));
       }
 
-  -- the next start is on, and at most one past the text
-  pub turn_ahead : (i : ℕ) → i + length P ≤ length T → (r : Turned) → turn_of i r ≡ sunday_turn P T i → (i < r.next) × (r.next ≤ length T + 1)
-  unfolding sunday_turn
-  turn_ahead i l r e = omega (arith, ap (λ (t : Turn ℕ). t.next) e, next_gt i l, next_le i l)
-
   unfoldable pub sound : Sound P T (within P T) (sunday_turn P T) (suc (length T)) 0
-  sound = by_start passing
+  sound = by_start (passing settles)
 
   -- the rule's run finds exactly the hits
   pub sunday_finds : (sunday_run P T).found ≡ hits P T
@@ -95,7 +89,12 @@ module _ (P T : List ℕ) where
   -- scan tests: at most m (n - m + 1)
   pub sunday_scan : (sunday_run P T).scan ≤ length P * (length T + 1 - length P)
   unfolding sunday_run sunday_turn
-  sunday_scan = per_start passing (λ (r : Run). r.scan) (λ (t : Turn ℕ). t.scan) refl (λ t r. refl) (length P) (λ i. tests_le P T i 0 (length P))
+  sunday_scan = per_start (passing settles) (λ (r : Run). r.scan) (λ (t : Turn ℕ). t.scan) refl (λ t r. refl) (length P) (λ i. tests_le P T i 0 (length P))
+
+  -- and no shift test
+  pub sunday_shift : (sunday_run P T).shift ≤ 0
+  unfolding sunday_run sunday_turn
+  sunday_shift = omega (arith, per_start (passing settles) (λ (r : Run). r.shift) (λ (t : Turn ℕ). t.shift) refl (λ t r. refl) 0 (λ i. omega arith))
 
   -- a pattern longer than the text: no turn, and no count
   pub sunday_idle : length T < length P → sunday_run P T ≡ idle

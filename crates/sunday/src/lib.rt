@@ -9,21 +9,17 @@
 // 3. The letter after the window may be unsure: the walk asks for a letter that shares any of its members, so that the greatest R over them counts, which is the least of their shifts. An entry mark meets nothing, so that its R is none.
 #![tactic(auto)]
 
-pub mod c;
 mod twice;
 
 ghost use Rattle.std.specs.Prelude.{◌≡◌, ◌+◌, ◌-◌, ◌*◌, ◌≤◌, length};
-ghost use Rattle.letters.specs.Sizes.{Sized};
-ghost use Rattle.hits.specs.Hits.{hits};
-ghost use Rattle.lent.specs.Over.{over};
-ghost use Rattle.hits.specs.Counts.{work_of, turn_of};
 ghost use Rattle.inputs.specs.Answers.{Searched, scan_of};
 ghost use Rattle.sunday.specs.Sunday.{next_start, sunday_turn, sunday_run};
 
 use hits::scan::reach_to;
-use hits::work::{Turned, Work, count, note};
-use inputs::checks::checked;
-use inputs::refusal::{Answer, Check};
+use hits::work::{Turned, Work};
+use inputs::refusal::Refusal;
+use inputs::rule::Rule;
+use inputs::starts::{Starts, run_starts};
 use letters::letter::Letter;
 use letters::strings::{Pattern, Text};
 use pattern::after_r;
@@ -40,52 +36,41 @@ pub fn next_start(p: &[u32], t: &[u32], i: usize) -> usize
     e + 1 - after_r(p, t[e])
 }
 
-// A turn at start i.
-fn step(p: &[u32], t: &[u32], i: usize) -> Turned
-    requires { i + length p.now ≤ length t.now }
-    ensures { turn_of i result ≡ sunday_turn p.now t.now i }
-{
-    let m = p.len();
-    let j = reach_to(p, t, i, 0, m);
-    Turned {
-        hit: j == m,
-        next: next_start(p, t, i),
-        scan: j as u64 + count(j < m),
-        shift: 0,
+// The engine as a type, for what serves any engine, as `inputs::rule::search::<Sunday>`.
+#[derive(Clone, Copy, Debug, PartialEq, Eq)]
+pub struct Sunday;
+
+impl Starts for Sunday {
+    ghost turn = { sunday_turn };
+
+    ghost ready = { λ e P. Unit {0} };
+
+    // A turn at start i.
+    fn step(&self, p: &[u32], t: &[u32], i: usize) -> Turned {
+        let m = p.len();
+        let j = reach_to(p, t, i, 0, m);
+        Turned {
+            hit: j == m,
+            next: next_start(p, t, i),
+            scan: j as u64 + u64::from(j < m),
+            shift: 0,
+        }
     }
 }
 
-// The run over all starts.
-fn run(p: &[u32], t: &[u32], list: &mut [u32]) -> Work
-    requires { Sized Pattern.MAX_M Text.MAX_N p.now t.now }
-    ensures { (result ≡ work_of (hits p.now t.now) (sunday_run p.now t.now)) × (list.new ≡ over (hits p.now t.now) list.old) }
-{
-    let m = p.len();
-    let n = t.len();
-    let mut i = 0;
-    let mut total = 0;
-    let mut scan: u64 = 0;
-    while i + m <= n {
-        let s = step(p, t, i);
-        total = note(list, total, i, s.hit);
-        scan += s.scan;
-        i = s.next;
-    }
-    Work {
-        total,
-        scan,
-        shift: 0,
-        steps: 0,
+impl Rule for Sunday {
+    ghost turns = { sunday_run };
+
+    // The run over all starts.
+    fn run(p: &[u32], t: &[u32], list: &mut [u32]) -> Work {
+        run_starts(&Sunday, p, t, list)
     }
 }
 
 // Every start at which the pattern meets the text, by Sunday.
-pub fn search(k: u32, p: &[u32], t: &[u32], list: &mut [u32]) -> Answer
+pub fn search(k: u32, p: &[u32], t: &[u32], list: &mut [u32]) -> Result<Work, Refusal>
     ensures promise { Searched sunday_run Letter.MAX_K Pattern.MAX_M Text.MAX_N k p.now t.now list.old result list.new }
     ensures bound { scan_of result ≤ length p.now * (length t.now + 1 - length p.now) }
 {
-    match checked(k, p, t) {
-        Check::Refused(r) => Answer::Refused(r),
-        Check::Passed => Answer::Found(run(p, t, list)),
-    }
+    inputs::rule::search::<Sunday>(k, p, t, list)
 }

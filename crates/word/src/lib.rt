@@ -1,6 +1,8 @@
 // The state of the word engines, held in one word of 64 bits.
 #![tactic(auto)]
 
+pub mod masked;
+
 ghost use Rattle.std.specs.Prelude.{◌≡◌, ◌+◌, ◌-◌, ◌^◌, ◌<◌};
 ghost use Rattle.letters.specs.Members.{members, union_of};
 ghost use Rattle.hits.specs.Counts.{tally, noted};
@@ -33,16 +35,6 @@ pub fn is_set(d: u64, j: usize) -> bool
     (d >> j) % 2 == 1
 }
 
-// Where a stretch of m letters that ends before e began; 0 where there is no such stretch.
-fn start_of(e: usize, m: usize) -> usize
-    ensures { result ≡ e - m }
-{
-    if e < m {
-        return 0;
-    }
-    e - m
-}
-
 // Notes a hit of m letters that ends before e. Its start is worked out for a hit alone, so that a letter that ends none costs nothing here.
 pub fn note_end(list: &mut [u32], total: usize, e: usize, m: usize, hit: bool) -> usize
     requires { (total < 2 ^ 32) × (e < 2 ^ 32) }
@@ -51,5 +43,5 @@ pub fn note_end(list: &mut [u32], total: usize, e: usize, m: usize, hit: bool) -
     if !hit {
         return total;
     }
-    note(list, total, start_of(e, m), true)
+    note(list, total, e.saturating_sub(m), true)
 }

@@ -1,14 +1,11 @@
 -- The starred examples, over the alphabet aen: a is 1, e is 2, n is 4, [ae] 3, [an] 5, * 7, the entry mark 0; and over abcd: a 1, b 2, c 4, [ab] 3, [ac] 5, [bc] 6, [abc] 7. A lent list holds 9s.
-use Rattle.std.specs.Prelude.{ℕ, true, false, List, [], ◌∷◌, ◌++◌, replicate}
-use Rattle.inputs.specs.declared.refusal.Answer.TheVariants.{Found, Refused}
-use Rattle.inputs.specs.declared.refusal.Written.TheVariants.{Wrote, Refused as WriteRefused}
+use Rattle.std.specs.Prelude.{ℕ, true, false, List, [], ◌∷◌, ◌++◌, replicate, Some, None, Ok}
+use Rattle.inputs.specs.declared.refusal.Kind.{Kind}
+use Rattle.inputs.specs.declared.refusal.Kind.TheVariants.{PatternLetter, TextLetter, NoProduct, Room, LetterLine, Start}
 use Rattle.engines.specs.declared.engine.Engine.{Engine}
 use Rattle.engines.specs.declared.engine.Engine.TheVariants.{Brute, Kmp, Bm, Sunday, ShiftAnd, Hybrid}
-use Rattle.first.specs.declared.First.TheVariants.{At, Nowhere, Refused as FirstRefused}
-use Rattle.bound.specs.declared.Bound.TheVariants.{Total, Refused as BoundRefused}
-use Rattle.bound.specs.declared.choice.Choice.TheVariants.{Made, Unlisted, Refused as ChoiceRefused}
-use Rattle.products.specs.declared.meeting.Meeting.TheVariants.{Known}
-use Rattle.worked.specs.Asked.{Asked, ask_search, ask_first, ask_bound, ask_choice, ask_reasons, ask_report, ask_products, ask_letters, ask_meeting, Handed, give_search, give_first, give_bound, give_choice, give_list, give_meeting}
+use Rattle.sheet.specs.Reader.{refusal}
+use Rattle.worked.specs.Asked.{Asked, ask_search, ask_first, ask_bound, ask_choice, ask_reasons, ask_report, ask_products, ask_letters, ask_meeting, Handed, give_search, give_first, give_choice, give_list, give_meeting}
 
 pub record Example : Type 0 where
   pub asked : Asked
@@ -17,47 +14,65 @@ pub record Example : Type 0 where
 abbrev blank : List ℕ
 blank = 9 ∷ 9 ∷ 9 ∷ 9 ∷ []
 
--- a search with a list of four lent: total, scan tests, shift tests, word steps, and the list afterwards
-abbrev finds : Engine → List ℕ → List ℕ → ℕ → ℕ → ℕ → ℕ → List ℕ → Example
-finds e P T total scan shift steps left =
-    record { asked = ask_search e 3 P T blank; due = give_search (Found (record { total = total; scan = scan; shift = shift; steps = steps })) left }
+-- a search over k letters with a list lent: total, scan tests, shift tests, word steps, and the list afterwards
+abbrev finds_in : Engine → ℕ → List ℕ → List ℕ → List ℕ → ℕ → ℕ → ℕ → ℕ → List ℕ → Example
+finds_in e k P T d total scan shift steps left =
+    record { asked = ask_search e k P T d; due = give_search (Ok (record { total = total; scan = scan; shift = shift; steps = steps })) left }
 
-abbrev refuses : Engine → List ℕ → List ℕ → ℕ → ℕ → Example
-refuses e P T number place = record { asked = ask_search e 3 P T blank; due = give_search (Refused (record { number = number; place = place })) blank }
+-- over aen, with a list of four lent
+abbrev finds : Engine → List ℕ → List ℕ → ℕ → ℕ → ℕ → ℕ → List ℕ → Example
+finds e P T total scan shift steps left = finds_in e 3 P T blank total scan shift steps left
+
+abbrev refuses : Engine → List ℕ → List ℕ → Kind → ℕ → Example
+refuses e P T kind place = record { asked = ask_search e 3 P T blank; due = give_search (refusal kind place) blank }
 
 -- the first hit: its start and the scan tests; or none, and the scan tests
 abbrev finds_first : List ℕ → List ℕ → ℕ → ℕ → Example
-finds_first P T start scan = record { asked = ask_first 3 P T; due = give_first (At start scan) }
+finds_first P T start scan = record { asked = ask_first 3 P T; due = give_first (Ok (record { start = Some start; scan = scan })) }
 
 abbrev finds_none : List ℕ → List ℕ → ℕ → Example
-finds_none P T scan = record { asked = ask_first 3 P T; due = give_first (Nowhere scan) }
+finds_none P T scan = record { asked = ask_first 3 P T; due = give_first (Ok (record { start = None; scan = scan })) }
 
 -- the bound mode over abcd, with a list of four lent: the total, and the list afterwards
 abbrev binds : List ℕ → List ℕ → ℕ → List ℕ → Example
-binds P T total left = record { asked = ask_bound 4 P T blank; due = give_bound (Total total) left }
+binds P T total left = record { asked = ask_bound 4 P T blank; due = give_list (Ok total) left }
 
 -- the choice at a start, with a list of four lent: made, and the list afterwards; or not listed
 abbrev chooses : List ℕ → List ℕ → ℕ → List ℕ → Example
-chooses P T start left = record { asked = ask_choice 4 P T start blank; due = give_choice Made left }
+chooses P T start left = record { asked = ask_choice 4 P T start blank; due = give_choice (Ok true) left }
 
 abbrev unlisted : List ℕ → List ℕ → ℕ → Example
-unlisted P T start = record { asked = ask_choice 4 P T start blank; due = give_choice Unlisted blank }
+unlisted P T start = record { asked = ask_choice 4 P T start blank; due = give_choice (Ok false) blank }
 
 -- the choice refused, with this list lent
-abbrev refuses_choice : List ℕ → List ℕ → ℕ → List ℕ → ℕ → Example
-refuses_choice P T start d number = record { asked = ask_choice 4 P T start d; due = give_choice (ChoiceRefused (record { number = number; place = 0 })) d }
+abbrev refuses_choice : List ℕ → List ℕ → ℕ → List ℕ → Kind → Example
+refuses_choice P T start d kind = record { asked = ask_choice 4 P T start d; due = give_choice (refusal kind 0) d }
 
 -- what is shared at a start, with a list of four lent: how many sets, and the list afterwards
 abbrev agrees : List ℕ → List ℕ → ℕ → ℕ → List ℕ → Example
-agrees P T start m left = record { asked = ask_reasons 3 P T start blank; due = give_list (Wrote m) left }
+agrees P T start m left = record { asked = ask_reasons 3 P T start blank; due = give_list (Ok m) left }
 
 -- the same refused, with this list lent
-abbrev refuses_reasons : List ℕ → List ℕ → ℕ → List ℕ → ℕ → Example
-refuses_reasons P T start d number = record { asked = ask_reasons 3 P T start d; due = give_list (WriteRefused (record { number = number; place = 0 })) d }
+abbrev refuses_reasons : List ℕ → List ℕ → ℕ → List ℕ → Kind → Example
+refuses_reasons P T start d kind = record { asked = ask_reasons 3 P T start d; due = give_list (refusal kind 0) d }
+
+-- three letters to products and back, with a list of four lent
+abbrev to_products : List ℕ → List ℕ → Example
+to_products cs left = record { asked = ask_products 3 cs blank; due = give_list (Ok 3) left }
+
+abbrev to_letters : List ℕ → List ℕ → Example
+to_letters vs left = record { asked = ask_letters 3 vs blank; due = give_list (Ok 3) left }
 
 -- a value that is no product for k = 3
 abbrev no_product : ℕ → Example
-no_product v = record { asked = ask_letters 3 (v ∷ []) blank; due = give_list (WriteRefused (record { number = 7; place = 0 })) blank }
+no_product v = record { asked = ask_letters 3 (v ∷ []) blank; due = give_list (refusal NoProduct 0) blank }
+
+-- two products for k = 3 that meet, and two that do not
+abbrev meet : ℕ → ℕ → Example
+meet a b = record { asked = ask_meeting 3 a b; due = give_meeting (Ok true) }
+
+abbrev do_not_meet : ℕ → ℕ → Example
+do_not_meet a b = record { asked = ask_meeting 3 a b; due = give_meeting (Ok false) }
 
 abbrev anna : List ℕ
 anna = 1 ∷ 4 ∷ 4 ∷ 1 ∷ []
@@ -102,9 +117,9 @@ report =
 abbrev sheet_with : List ℕ → List ℕ
 sheet_with xs = 51 ∷ 10 ∷ 97 ∷ 101 ∷ 110 ∷ 10 ∷ 49 ∷ 10 ∷ (xs ++ (10 ∷ 48 ∷ 10 ∷ 10 ∷ []))
 
--- a sheet that is refused, with its number and place
-abbrev refuses_sheet : List ℕ → ℕ → ℕ → Example
-refuses_sheet s number place = record { asked = ask_report s blank; due = give_list (WriteRefused (record { number = number; place = place })) blank }
+-- a sheet that is refused, with the kind and the place
+abbrev refuses_sheet : List ℕ → Kind → ℕ → Example
+refuses_sheet s kind place = record { asked = ask_report s blank; due = give_list (refusal kind place) blank }
 
 abbrev pub examples : List Example
 examples =
@@ -148,12 +163,12 @@ examples =
     -- * in |, which belongs to no *
     ∷ finds Brute (7 ∷ []) (0 ∷ []) 0 1 0 0 blank
     -- the mark in a pattern
-    ∷ refuses Brute (0 ∷ []) (1 ∷ []) 4 0
+    ∷ refuses Brute (0 ∷ []) (1 ∷ []) PatternLetter 0
     -- a in aaa with a list of one
-    ∷ record { asked = ask_search Brute 3 (1 ∷ []) (1 ∷ 1 ∷ 1 ∷ []) (9 ∷ []); due = give_search (Found (record { total = 3; scan = 3; shift = 0; steps = 0 })) (0 ∷ []) }
+    ∷ finds_in Brute 3 (1 ∷ []) (1 ∷ 1 ∷ 1 ∷ []) (9 ∷ []) 3 3 0 0 (0 ∷ [])
     -- text letter 8 at index 2; bad letters in both
-    ∷ refuses Brute (1 ∷ []) (1 ∷ 1 ∷ 8 ∷ []) 5 2
-    ∷ refuses Brute (8 ∷ []) (1 ∷ 1 ∷ 8 ∷ []) 4 0
+    ∷ refuses Brute (1 ∷ []) (1 ∷ 1 ∷ 8 ∷ []) TextLetter 2
+    ∷ refuses Brute (8 ∷ []) (1 ∷ 1 ∷ 8 ∷ []) PatternLetter 0
     -- the first hit: anna in the worked sheet's text, an in eeean, na in annan
     ∷ finds_first anna page 0 4
     ∷ finds_first an (2 ∷ 2 ∷ 2 ∷ 1 ∷ 4 ∷ []) 3 5
@@ -163,12 +178,12 @@ examples =
     ∷ finds_none an (1 ∷ []) 0
     ∷ finds_none an [] 0
     -- a wrong letter behind the hit
-    ∷ record { asked = ask_first 3 an (1 ∷ 4 ∷ 8 ∷ []); due = give_first (FirstRefused (record { number = 5; place = 2 })) }
+    ∷ record { asked = ask_first 3 an (1 ∷ 4 ∷ 8 ∷ []); due = give_first (refusal TextLetter 2) }
     -- bound: [ab][abc][ab] over [abc]ab, and [ab][bc] over [ac][ab], are hits and not bound-listed
-    ∷ record { asked = ask_search Brute 4 (3 ∷ 7 ∷ 3 ∷ []) (7 ∷ 1 ∷ 2 ∷ []) blank; due = give_search (Found (record { total = 1; scan = 3; shift = 0; steps = 0 })) (0 ∷ 9 ∷ 9 ∷ 9 ∷ []) }
+    ∷ finds_in Brute 4 (3 ∷ 7 ∷ 3 ∷ []) (7 ∷ 1 ∷ 2 ∷ []) blank 1 3 0 0 (0 ∷ 9 ∷ 9 ∷ 9 ∷ [])
     ∷ binds (3 ∷ 7 ∷ 3 ∷ []) (7 ∷ 1 ∷ 2 ∷ []) 0 blank
     ∷ unlisted (3 ∷ 7 ∷ 3 ∷ []) (7 ∷ 1 ∷ 2 ∷ []) 0
-    ∷ record { asked = ask_search Brute 4 (3 ∷ 6 ∷ []) (5 ∷ 3 ∷ []) blank; due = give_search (Found (record { total = 1; scan = 2; shift = 0; steps = 0 })) (0 ∷ 9 ∷ 9 ∷ 9 ∷ []) }
+    ∷ finds_in Brute 4 (3 ∷ 6 ∷ []) (5 ∷ 3 ∷ []) blank 1 2 0 0 (0 ∷ 9 ∷ 9 ∷ 9 ∷ [])
     ∷ binds (3 ∷ 6 ∷ []) (5 ∷ 3 ∷ []) 0 blank
     ∷ unlisted (3 ∷ 6 ∷ []) (5 ∷ 3 ∷ []) 0
     -- [abc][abc] over [ab][bc]: b b. [ab] over [ab]: a
@@ -176,46 +191,46 @@ examples =
     ∷ chooses (3 ∷ []) (3 ∷ []) 0 (0 ∷ 9 ∷ 9 ∷ 9 ∷ [])
     -- [ab][ab] in aabb[ab][ab]; with a list of two; [ab] in |[ab]ac
     ∷ binds (3 ∷ 3 ∷ []) (1 ∷ 1 ∷ 2 ∷ 2 ∷ 3 ∷ 3 ∷ []) 4 (0 ∷ 2 ∷ 3 ∷ 4 ∷ [])
-    ∷ record { asked = ask_bound 4 (3 ∷ 3 ∷ []) (1 ∷ 1 ∷ 2 ∷ 2 ∷ 3 ∷ 3 ∷ []) (9 ∷ 9 ∷ []); due = give_bound (Total 4) (0 ∷ 2 ∷ []) }
+    ∷ record { asked = ask_bound 4 (3 ∷ 3 ∷ []) (1 ∷ 1 ∷ 2 ∷ 2 ∷ 3 ∷ 3 ∷ []) (9 ∷ 9 ∷ []); due = give_list (Ok 4) (0 ∷ 2 ∷ []) }
     ∷ binds (3 ∷ []) (0 ∷ 3 ∷ 1 ∷ 4 ∷ []) 2 (1 ∷ 2 ∷ 9 ∷ 9 ∷ [])
     -- a pattern longer than the text; a mark in the pattern
     ∷ binds (3 ∷ 3 ∷ []) (3 ∷ []) 0 blank
-    ∷ record { asked = ask_bound 4 (0 ∷ []) (1 ∷ []) blank; due = give_bound (BoundRefused (record { number = 4; place = 0 })) blank }
-    -- past the last start, and a pattern longer than the text: 16; a list too short, at a start that is not listed: 8
-    ∷ refuses_choice (3 ∷ 3 ∷ []) (1 ∷ 1 ∷ 2 ∷ []) 2 blank 16
-    ∷ refuses_choice (3 ∷ 3 ∷ []) (3 ∷ []) 0 (9 ∷ []) 16
-    ∷ refuses_choice (3 ∷ 3 ∷ []) (1 ∷ 2 ∷ []) 0 (9 ∷ []) 8
+    ∷ record { asked = ask_bound 4 (0 ∷ []) (1 ∷ []) blank; due = give_list (refusal PatternLetter 0) blank }
+    -- past the last start, and a pattern longer than the text: Start; a list too short, at a start that is not listed: Room
+    ∷ refuses_choice (3 ∷ 3 ∷ []) (1 ∷ 1 ∷ 2 ∷ []) 2 blank Start
+    ∷ refuses_choice (3 ∷ 3 ∷ []) (3 ∷ []) 0 (9 ∷ []) Start
+    ∷ refuses_choice (3 ∷ 3 ∷ []) (1 ∷ 2 ∷ []) 0 (9 ∷ []) Room
     -- what anna shares with the worked sheet's text: at 3, a hit, a n n a; at 1, which is none, n alone. * with [ae] and with |
     ∷ agrees anna page 3 4 (1 ∷ 4 ∷ 4 ∷ 1 ∷ [])
     ∷ agrees anna page 1 4 (0 ∷ 4 ∷ 0 ∷ 0 ∷ [])
     ∷ agrees (7 ∷ []) (3 ∷ []) 0 1 (3 ∷ 9 ∷ 9 ∷ 9 ∷ [])
     ∷ agrees (7 ∷ []) (0 ∷ []) 0 1 (0 ∷ 9 ∷ 9 ∷ 9 ∷ [])
-    -- past the last start: 16, with three lent too; at 3 with three lent: 8
-    ∷ refuses_reasons anna page 9 blank 16
-    ∷ refuses_reasons anna page 9 (9 ∷ 9 ∷ 9 ∷ []) 16
-    ∷ refuses_reasons anna page 3 (9 ∷ 9 ∷ 9 ∷ []) 8
+    -- past the last start: Start, with three lent too; at 3 with three lent: Room
+    ∷ refuses_reasons anna page 9 blank Start
+    ∷ refuses_reasons anna page 9 (9 ∷ 9 ∷ 9 ∷ []) Start
+    ∷ refuses_reasons anna page 3 (9 ∷ 9 ∷ 9 ∷ []) Room
     -- products: [ae] 6, n 5, * 30, and back
-    ∷ record { asked = ask_products 3 (3 ∷ 4 ∷ 7 ∷ []) blank; due = give_list (Wrote 3) (6 ∷ 5 ∷ 30 ∷ 9 ∷ []) }
-    ∷ record { asked = ask_letters 3 (6 ∷ 5 ∷ 30 ∷ []) blank; due = give_list (Wrote 3) (3 ∷ 4 ∷ 7 ∷ 9 ∷ []) }
+    ∷ to_products (3 ∷ 4 ∷ 7 ∷ []) (6 ∷ 5 ∷ 30 ∷ 9 ∷ [])
+    ∷ to_letters (6 ∷ 5 ∷ 30 ∷ []) (3 ∷ 4 ∷ 7 ∷ 9 ∷ [])
     -- [ae], the mark and *: 6, 1, 30, and back
-    ∷ record { asked = ask_products 3 (3 ∷ 0 ∷ 7 ∷ []) blank; due = give_list (Wrote 3) (6 ∷ 1 ∷ 30 ∷ 9 ∷ []) }
-    ∷ record { asked = ask_letters 3 (6 ∷ 1 ∷ 30 ∷ []) blank; due = give_list (Wrote 3) (3 ∷ 0 ∷ 7 ∷ 9 ∷ []) }
+    ∷ to_products (3 ∷ 0 ∷ 7 ∷ []) (6 ∷ 1 ∷ 30 ∷ 9 ∷ [])
+    ∷ to_letters (6 ∷ 1 ∷ 30 ∷ []) (3 ∷ 0 ∷ 7 ∷ 9 ∷ [])
     -- 6 meets 10, not 5
-    ∷ record { asked = ask_meeting 3 6 10; due = give_meeting (Known true) }
-    ∷ record { asked = ask_meeting 3 6 5; due = give_meeting (Known false) }
+    ∷ meet 6 10
+    ∷ do_not_meet 6 5
     -- 1 meets neither 6 nor 1
-    ∷ record { asked = ask_meeting 3 1 6; due = give_meeting (Known false) }
-    ∷ record { asked = ask_meeting 3 1 1; due = give_meeting (Known false) }
+    ∷ do_not_meet 1 6
+    ∷ do_not_meet 1 1
     -- 0, 4, 7 are refused for k = 3
     ∷ no_product 0
     ∷ no_product 4
     ∷ no_product 7
     -- the worked sheet, bytes in and report bytes out
-    ∷ record { asked = ask_report sheet (replicate 92 9); due = give_list (Wrote 91) (report ++ (9 ∷ [])) }
+    ∷ record { asked = ask_report sheet (replicate 92 9); due = give_list (Ok 91) (report ++ (9 ∷ [])) }
     -- [ea] is wrong at the a, [a] at the ]; the worked sheet where four bytes are lent
-    ∷ refuses_sheet (sheet_with (91 ∷ 101 ∷ 97 ∷ 93 ∷ [])) 13 10
-    ∷ refuses_sheet (sheet_with (91 ∷ 97 ∷ 93 ∷ [])) 13 10
-    ∷ refuses_sheet sheet 8 0
+    ∷ refuses_sheet (sheet_with (91 ∷ 101 ∷ 97 ∷ 93 ∷ [])) LetterLine 10
+    ∷ refuses_sheet (sheet_with (91 ∷ 97 ∷ 93 ∷ [])) LetterLine 10
+    ∷ refuses_sheet sheet Room 0
     -- | in a pattern line
-    ∷ refuses_sheet (sheet_with (124 ∷ [])) 13 8
+    ∷ refuses_sheet (sheet_with (124 ∷ [])) LetterLine 8
     ∷ []

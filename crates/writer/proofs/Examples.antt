@@ -8,9 +8,9 @@ use Rattle.letters.specs.Letters.{member}
 use Rattle.letters.specs.Members.{members_from, members}
 use Rattle.letters.specs.Sizes.{outside}
 use Rattle.decimal.specs.Decimal.{decimal_to, decimal}
-use Rattle.inputs.specs.Refusals.{bad, refuse, verdict}
-use Rattle.inputs.specs.declared.refusal.Check.{Check}
-use Rattle.inputs.specs.declared.refusal.Check.TheVariants.{Passed, Refused}
+use Rattle.std.specs.Prelude.{Ok, Err}
+use Rattle.inputs.specs.Refusals.{Check, bad, refuse, verdict}
+use Rattle.inputs.specs.declared.refusal.Kind.TheVariants.{AlphabetSize, AlphabetLine}
 use Rattle.notation.specs.Alphabet.{plain, fresh, fresh_from}
 use Rattle.notation.specs.Spelling.{pick, spelling, spell, line}
 use Rattle.sheet.specs.Bytes.{sheet_bytes}
@@ -22,18 +22,18 @@ record Case : Type 0 where
   check : Check
 
 abbrev at12 : ℕ → Check
-at12 q = Refused (record { number = 12; place = q })
+at12 q = Err (record { kind = AlphabetLine; place = q })
 
 -- right; short; long; the second of two equal bytes; a bad byte before a wrong length; the entry mark's byte; k too large before all
 abbrev cases : List Case
 cases =
-    record { k = 3; alphabet = 97 ∷ 101 ∷ 110 ∷ []; check = Passed }
+    record { k = 3; alphabet = 97 ∷ 101 ∷ 110 ∷ []; check = Ok tt }
     ∷ record { k = 3; alphabet = 97 ∷ 101 ∷ []; check = at12 2 }
     ∷ record { k = 2; alphabet = 97 ∷ 101 ∷ 110 ∷ []; check = at12 2 }
     ∷ record { k = 3; alphabet = 97 ∷ 101 ∷ 97 ∷ []; check = at12 2 }
     ∷ record { k = 3; alphabet = 97 ∷ 42 ∷ []; check = at12 1 }
     ∷ record { k = 3; alphabet = 97 ∷ 101 ∷ 124 ∷ []; check = at12 2 }
-    ∷ record { k = 33; alphabet = []; check = Refused (record { number = 1; place = 0 }) }
+    ∷ record { k = 33; alphabet = []; check = Err (record { kind = AlphabetSize; place = 0 }) }
     ∷ []
 
 abbrev check_of : Case → Check

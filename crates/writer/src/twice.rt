@@ -2,7 +2,8 @@
 ghost use Rattle.std.specs.Prelude.{◌≡◌};
 
 use crate::write;
-use inputs::twice::Writings;
+use inputs::refusal::Refusal;
+use inputs::twice::Twice;
 
 fn write_twice(
     k: u32,
@@ -11,11 +12,11 @@ fn write_twice(
     text: &[u32],
     a: &mut [u8],
     b: &mut [u8],
-) -> Writings
+) -> Twice<Result<usize, Refusal>>
     requires { a.old ≡ b.old }
     ensures { (result.first ≡ result.second) × (a.new ≡ b.new) }
 {
     let first = write(k, alphabet, pattern, text, a);
     let second = write(k, alphabet, pattern, text, b);
-    Writings { first, second }
+    Twice { first, second }
 }

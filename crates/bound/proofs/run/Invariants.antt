@@ -1,10 +1,6 @@
-use Prim.Native.Nat.{◌+◌, ◌-◌, ◌≤◌}
 use Rattle.hits.proofs.StartLaws.{Noting}
 use Rattle.choices.specs.Choices.{bound_at}
 use Rattle.bound.proofs.run.Given as goal
 
 abbrev pub invariant-loop-i : goal.invariant-loop-i
-invariant-loop-i l = (l.i ≤ l.n + 1) × Noting (bound_at l.p l.t) l.initial.list l.i l.list l.total
-
-abbrev pub decreases-loop-i : goal.decreases-loop-i
-decreases-loop-i l = l.n + 1 - l.i
+invariant-loop-i l = Noting (bound_at l.p l.t) l.initial.list l.i l.list l.total

@@ -1,25 +1,10 @@
--- `brute::search` meets its contract: what the checks say picks the case. Assumes nothing.
-use mathlib.Core.Path.{sym}
-use native.Mathlib.Omega.{arith}
-use Rattle.inputs.proofs.CheckLaws.{sized}
-use Rattle.inputs.proofs.SearchLaws.{search_refused, search_found}
+-- `brute::search` meets its contract: the search of any engine keeps the promise, and what its run counts is the bound. Assumes nothing.
+use Rattle.inputs.proofs.SearchLaws.{scan_most}
 use Rattle.brute.specs.Brute.{brute_run}
 use Rattle.brute.proofs.BruteLaws.{brute_scan}
 use Rattle.brute.proofs.search.Goals as goal
 
-pub run-requires : goal.run-requires
-run-requires c = sized _ _ _ _ _ _ (sym c.in-Passed.ensures)
-
-pub returns-in-Refused : goal.returns-in-Refused
-returns-in-Refused c =
+pub returns : goal.returns
+returns c =
     let a = c.args in
-    record { promise = search_refused brute_run _ _ _ a.k a.p.now a.t.now a.list.now _ (sym c.in-Refused.ensures); bound = omega arith }
-
-pub returns-in-Passed : goal.returns-in-Passed
-returns-in-Passed c =
-    let a = c.args in
-    let e = c.run.ensures in
-    record {
-      promise = search_found brute_run _ _ _ a.k a.p.now a.t.now a.list.now _ _ (sym c.in-Passed.ensures) e.0 e.1;
-      bound = rw e.0 (brute_scan a.p.now a.t.now);
-    }
+    record { promise = c.search.ensures; bound = scan_most brute_run _ _ _ _ _ _ _ _ _ c.search.ensures _ (brute_scan a.p.now a.t.now) }

@@ -1,14 +1,10 @@
 -- `brute::step` meets its contract: how far the scan went says whether it is a hit and how many tests it took. Assumes nothing.
-use native.Mathlib.Omega.{arith}
 use Rattle.hits.proofs.ScanLaws.{whole_scan}
 use Rattle.brute.specs.Brute.{brute_turn}
 use Rattle.brute.proofs.step.Goals as goal
 
-pub overflow_add-result-2 : goal.overflow_add-result-2
-overflow_add-result-2 c = omega (arith, whole_scan _ _ _ _ _ c.reach_to-j.ensures c.count.ensures)
-
 pub returns : goal.returns
 unfolding brute_turn
 returns c =
-    let w = whole_scan _ _ _ _ _ c.reach_to-j.ensures c.count.ensures in
+    let w = whole_scan _ _ _ _ _ c.reach_to-j.ensures c.from.ensures in
     rw (w.1, w.0)

@@ -1,11 +1,8 @@
-use Prim.Native.Nat.{◌+◌, ◌-◌, ◌≤◌}
+use Prim.Native.Nat.{◌+◌}
 use lib.ListN.{get_or}
 use Rattle.letters.specs.Letters.{shared}
 use Rattle.lent.proofs.FillLaws.{Filled}
 use Rattle.choices.proofs.cut.Given as goal
 
 abbrev pub invariant-loop-j : goal.invariant-loop-j
-invariant-loop-j l = (l.j ≤ l.m) × Filled 0 (λ h. shared (get_or l.initial.own h 0) (get_or l.t (l.i + h) 0)) l.initial.own l.j l.own
-
-abbrev pub decreases-loop-j : goal.decreases-loop-j
-decreases-loop-j l = l.m - l.j
+invariant-loop-j l = Filled 0 (λ h. shared (get_or l.initial.own h 0) (get_or l.t (l.i + h) 0)) l.initial.own l.j l.own

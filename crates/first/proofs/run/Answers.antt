@@ -1,7 +1,7 @@
 -- `first::run` meets its contract: the loop looks at each start in turn, and leaves at the first hit. Assumes nothing.
 use Prim.Native.Nat.{ℕ, ◌+◌, ◌*◌, ◌≤◌}
 use mathlib.Core.List.{List}
-use mathlib.Core.Path.{◌≡◌, ap}
+use mathlib.Core.Path.{◌≡◌, sym, ap}
 use native.Mathlib.Omega.{arith}
 use Rattle.letters.specs.Sizes.{Sized}
 use Rattle.hits.specs.Turns.{Turn}
@@ -10,7 +10,7 @@ use Rattle.hits.specs.declared.work.Turned.{Turned}
 use Rattle.hits.proofs.HeadLaws.{Looking, look, look_fits, look_found, look_on, look_end}
 use Rattle.brute.specs.Brute.{brute_turn}
 use Rattle.first.specs.First.{first_run}
-use Rattle.first.proofs.FirstLaws.{first_idle, first_small}
+use Rattle.first.proofs.FirstLaws.{first_small}
 use Rattle.first.proofs.run.Goals as goal
 
 -- the next start
@@ -23,15 +23,8 @@ few : {M N : ℕ} {P T : List ℕ} {m n i scan : ℕ} → Sized M N P T → Look
 unfolding first_run
 few s h l r q = omega (arith, look_fits _ _ _ _ _ _ _ h l r q, first_small s)
 
--- a pattern longer than the text
-pub returns-then-n-m : goal.returns-then-n-m
-returns-then-n-m c = rw (first_idle _ _ c.if-n-m.true)
-
 pub loop-i-init : goal.loop-i-init
 loop-i-init c = look _ _ _
-
-pub step-s-requires : goal.step-s-requires
-step-s-requires c = omega arith
 
 pub overflow_add-tests : goal.overflow_add-tests
 overflow_add-tests c = omega (arith, few c.requires c.loop-i.invariant (omega arith) c.step-s.result c.step-s.ensures)
@@ -48,13 +41,10 @@ narrowed-scan-requires c = omega (arith, few c.requires c.loop-i.invariant (omeg
 pub overflow_add-scan : goal.overflow_add-scan
 overflow_add-scan c = omega (arith, few c.requires c.loop-i.invariant (omega arith) c.step-s.result c.step-s.ensures)
 
-pub loop-i-smaller : goal.loop-i-smaller
-loop-i-smaller c = omega (arith, one_on _ _ c.loop-i.i c.step-s.result c.step-s.ensures)
-
 pub loop-i-preserved : goal.loop-i-preserved
 loop-i-preserved c =
-    let h = look_on _ _ _ _ _ _ _ c.loop-i.invariant (omega arith) c.step-s.result c.step-s.ensures c.if-s.false (omega (arith, one_on _ _ c.loop-i.i c.step-s.result c.step-s.ensures)) in
-    rw c.narrowed-scan.ensures h
+    let next = one_on _ _ c.loop-i.i c.step-s.result c.step-s.ensures in
+    rw (c.narrowed-scan.ensures, sym next) (look_on _ _ _ _ _ _ _ c.loop-i.invariant (omega arith) c.step-s.result c.step-s.ensures c.if-s.false (omega (arith, next)))
 
 pub returns : goal.returns
 unfolding first_run

@@ -9,11 +9,11 @@ use Rattle.hybrid.proofs.step.Goals as goal
 pub returns-then-common-ne0 : goal.returns-then-common-ne0
 returns-then-common-ne0 c =
     let a = c.args in
-    rw (turn_yes a.p.now a.t.now a.a ((compared c.common.ensures).some c.if-common-ne0.true)) c.steps_from.ensures
+    rw (turn_yes a.pattern.now a.t.now a.a (rw c.letters-p.ensures.0 at ((compared c.common.ensures).some c.if-common-ne0.true))) c.steps_from.ensures
 
 pub returns : goal.returns
 unfolding noted_all
 returns c =
     let a = c.args in
-    rw (turn_no a.p.now a.t.now a.a ((compared c.common.ensures).none c.if-common-ne0.false), c.next_start.ensures)
+    rw (turn_no a.pattern.now a.t.now a.a (rw c.letters-p.ensures.0 at ((compared c.common.ensures).none c.if-common-ne0.false)), c.next_start.ensures, c.letters-p.ensures.0)
     (record { answers = rw (add-zero a.total); leaves = refl })

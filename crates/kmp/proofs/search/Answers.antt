@@ -1,30 +1,16 @@
--- `kmp::search` meets its contract: what the checks say picks the case. Assumes nothing.
-use Prim.Native.Nat.{zero-le}
-use mathlib.Core.Path.{sym}
-use Rattle.inputs.proofs.CheckLaws.{sized}
-use Rattle.inputs.proofs.SearchLaws.{search_refused, search_found}
+-- `kmp::search` meets its contract: the search of any engine, with what KMP's run costs. Assumes nothing.
+use Rattle.inputs.proofs.SearchLaws.{scan_most, shift_most}
 use Rattle.kmp.specs.Kmp.{kmp_run}
 use Rattle.kmp.proofs.KmpLaws.{kmp_scan, kmp_shift}
 use Rattle.kmp.proofs.search.Goals as goal
 
-pub run-requires : goal.run-requires
-run-requires c = sized _ _ _ _ _ _ (sym c.in-Passed.ensures)
-
-pub returns-in-Refused : goal.returns-in-Refused
-returns-in-Refused c =
-    let a = c.args in
+pub returns : goal.returns
+returns c =
+    let P = c.args.p.now in
+    let T = c.args.t.now in
+    let e = c.search.ensures in
     record {
-      promise = search_refused kmp_run _ _ _ a.k a.p.now a.t.now a.list.now _ (sym c.in-Refused.ensures);
-      scan_bound = λ l. zero-le;
-      shift_bound = λ l. zero-le;
-    }
-
-pub returns-in-Passed : goal.returns-in-Passed
-returns-in-Passed c =
-    let a = c.args in
-    let e = c.run.ensures in
-    record {
-      promise = search_found kmp_run _ _ _ a.k a.p.now a.t.now a.list.now _ _ (sym c.in-Passed.ensures) e.0 e.1;
-      scan_bound = λ l. rw e.0 (kmp_scan a.p.now a.t.now);
-      shift_bound = λ l. rw e.0 (kmp_shift a.p.now a.t.now);
+      promise = e;
+      scan_bound = λ l. scan_most kmp_run _ _ _ _ _ _ _ _ _ e _ (kmp_scan P T);
+      shift_bound = λ l. shift_most kmp_run _ _ _ _ _ _ _ _ _ e _ (kmp_shift P T);
     }

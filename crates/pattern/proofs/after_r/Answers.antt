@@ -1,17 +1,14 @@
--- `after_r` meets its contract: no letter that the walk has passed meets c. Assumes nothing.
+-- `after_r` meets its contract: the letter that is found meets c, and none after it does. Assumes nothing.
 use native.Mathlib.Omega.{arith}
-use Rattle.letters.proofs.LetterLaws.{compared}
-use Rattle.pattern.proofs.LastLaws.{down_start, down_here, down_on, down_end}
+use Rattle.std.proofs.Common.{rules, sym}
+use Rattle.letters.specs.Letters.{meets}
+use Rattle.pattern.proofs.LastLaws.{at_r, none_r}
 use Rattle.pattern.proofs.after_r.Goals as goal
 
-pub loop-passed-init : goal.loop-passed-init
-loop-passed-init c = down_start _ _
+pub returns-in-Some : goal.returns-in-Some
+unfolding meets
+returns-in-Some c = let found = at_r c.args.p.now c.args.c c.in-Some.j (search rules) (search rules) (search rules) in omega arith
 
-pub returns-then-common-ne0 : goal.returns-then-common-ne0
-returns-then-common-ne0 c = down_here c.loop-passed.invariant (omega arith) ((compared c.common.ensures).some c.if-common-ne0.true)
-
-pub loop-passed-preserved : goal.loop-passed-preserved
-loop-passed-preserved c = down_on c.loop-passed.invariant (omega arith) ((compared c.common.ensures).none c.if-common-ne0.false) _ (omega arith)
-
-pub returns : goal.returns
-returns c = down_end c.loop-passed.invariant (omega arith)
+pub returns-in-None : goal.returns-in-None
+unfolding meets
+returns-in-None c = sym (none_r c.args.p.now c.args.c (search rules))

@@ -1,10 +1,8 @@
 -- `report::of_sheet` meets its contract: what the reader answered picks the case. That no report is longer than its bound is computed. Assumes nothing.
-use Prim.Native.Nat.{◌≤◌}
 use mathlib.Core.Path.{refl, sym}
 use native.Mathlib.Omega.{arith}
 use borrow.Author.Rules.{rules}
 use borrow.Author.Tests.{leb-true}
-use lib.ListN.{length}
 use lib.Seq.{length-take-le}
 use Rattle.decimal.specs.Decimal.{decimal_to, decimal, ended}
 use Rattle.engines.proofs.CountLaws.{most_of}
@@ -14,43 +12,32 @@ use Rattle.report.proofs.PromiseLaws.{got_read, got_refused, searchable, sheet_r
 use Rattle.report.proofs.of_sheet.Goals as goal
 
 pub slice_bounds-pattern-end : goal.slice_bounds-pattern-end
-slice_bounds-pattern-end c =
-    let fits : (c.in-Read.sizes.m ≤ length c.read.new.pattern) × (c.in-Read.sizes.n ≤ length c.read.new.text) = let g = got_read _ _ _ _ _ _ _ _ c.read.ensures.promise (search rules) (search rules) (search rules) _ c.in-Read.is in
-    (g.pattern_fits, g.text_fits) in
-    fits.0
+slice_bounds-pattern-end c = (got_read _ _ _ _ _ _ _ _ c.read.ensures.promise (search rules) (search rules) (search rules) _ c.in_ok-sizes.was).pattern_fits
 
 pub slice_bounds-of_strings-end : goal.slice_bounds-of_strings-end
 slice_bounds-of_strings-end c =
-    let fits : (c.in-Read.sizes.m ≤ length c.read.new.pattern) × (c.in-Read.sizes.n ≤ length c.read.new.text) = let g = got_read _ _ _ _ _ _ _ _ c.read.ensures.promise (search rules) (search rules) (search rules) _ c.in-Read.is in
-    (g.pattern_fits, g.text_fits) in
-    sym (length-take-le _ _ fits.0)
+    sym (length-take-le _ _ (got_read _ _ _ _ _ _ _ _ c.read.ensures.promise (search rules) (search rules) (search rules) _ c.in_ok-sizes.was).pattern_fits)
 
 pub slice_bounds-text-end : goal.slice_bounds-text-end
-slice_bounds-text-end c =
-    let fits : (c.in-Read.sizes.m ≤ length c.read.new.pattern) × (c.in-Read.sizes.n ≤ length c.read.new.text) = let g = got_read _ _ _ _ _ _ _ _ c.read.ensures.promise (search rules) (search rules) (search rules) _ c.in-Read.is in
-    (g.pattern_fits, g.text_fits) in
-    fits.1
+slice_bounds-text-end c = (got_read _ _ _ _ _ _ _ _ c.read.ensures.promise (search rules) (search rules) (search rules) _ c.in_ok-sizes.was).text_fits
 
-pub slice_bounds-of_strings-end-in-Read : goal.slice_bounds-of_strings-end-in-Read
-slice_bounds-of_strings-end-in-Read c =
-    let fits : (c.in-Read.sizes.m ≤ length c.read.new.pattern) × (c.in-Read.sizes.n ≤ length c.read.new.text) = let g = got_read _ _ _ _ _ _ _ _ c.read.ensures.promise (search rules) (search rules) (search rules) _ c.in-Read.is in
-    (g.pattern_fits, g.text_fits) in
-    sym (length-take-le _ _ fits.1)
+pub slice_bounds-of_strings-end-2 : goal.slice_bounds-of_strings-end-2
+slice_bounds-of_strings-end-2 c =
+    sym (length-take-le _ _ (got_read _ _ _ _ _ _ _ _ c.read.ensures.promise (search rules) (search rules) (search rules) _ c.in_ok-sizes.was).text_fits)
 
 pub of_strings-requires : goal.of_strings-requires
-of_strings-requires c = searchable (got_read _ _ _ _ _ _ _ _ c.read.ensures.promise (search rules) (search rules) (search rules) _ c.in-Read.is)
+of_strings-requires c = searchable (got_read _ _ _ _ _ _ _ _ c.read.ensures.promise (search rules) (search rules) (search rules) _ c.in_ok-sizes.was)
 
-pub returns-in-Refused : goal.returns-in-Refused
-returns-in-Refused c =
-    let q =
-    sheet_refused _ _ _ _ 40000 c.args.sheet.now c.args.out.now _
-    (got_refused _ _ _ _ _ _ _ _ c.read.ensures.promise (search rules) (search rules) (search rules) _ c.in-Refused.is) in
+pub returns-in_err-sizes : goal.returns-in_err-sizes
+returns-in_err-sizes c =
+    let r = got_refused _ _ _ _ _ _ _ _ c.read.ensures.promise (search rules) (search rules) (search rules) _ c.in_err-sizes.was in
+    let q = sheet_refused _ _ _ _ 40000 c.args.sheet.now c.args.out.now _ r c.from_residual.result (search rules) in
     record { promise = q.0; enough = q.1.0; small = q.1.1 }
 
-pub returns-in-Read : goal.returns-in-Read
+pub returns : goal.returns
 unfolding most sizes most_of engine_lines engine_line counts ended decimal decimal_to
-returns-in-Read c =
-    let g = got_read _ _ _ _ _ _ _ _ c.read.ensures.promise (search rules) (search rules) (search rules) _ c.in-Read.is in
+returns c =
+    let g = got_read _ _ _ _ _ _ _ _ c.read.ensures.promise (search rules) (search rules) (search rules) _ c.in_ok-sizes.was in
     let a = c.args in
     let q = sheet_read _ _ _ _ 40000 a.sheet.now a.out.now _ _ g c.of_strings.ensures (omega arith) (leb-true _ _ refl) in
     record { promise = q.0; enough = q.1.0; small = q.1.1 }

@@ -20,10 +20,6 @@ use Rattle.report.proofs.ValueLaws.{bytes_same}
 use Rattle.report.proofs.PromiseLaws.{too_short, fits}
 use Rattle.report.proofs.of_strings.Goals as goal
 
--- the report that is due
-abbrev bytes : List ℕ → List ℕ → List ℕ
-bytes P T = bytes_of (values_of P T)
-
 -- how many starts are reported
 abbrev total : List Work → ℕ
 total works = (get_or works 0 (work_of [] idle)).total
@@ -32,62 +28,38 @@ total works = (get_or works 0 (work_of [] idle)).total
 record Facts (P T : List ℕ) (works : List Work) (list : List ℕ) : Type 0 where
   within : total works ≤ length list
   few : length (take (total works) list) < 2 ^ 32
-  same : bytes_of (values_in works (take (total works) list)) ≡ bytes P T
+  same : bytes_of (values_in works (take (total works) list)) ≡ bytes_of (values_of P T)
 
-facts : (P T d : List ℕ) (works : List Work) (list : List ℕ) → works ≡ works_of P T → list ≡ over (hits P T) d → length T < length list → length T + 1 < 2 ^ 32
+facts : (P T d : List ℕ) (works : List Work) (list : List ℕ) → (works ≡ works_of P T) × (list ≡ over (hits P T) d) → length T < length list → length T + 1 < 2 ^ 32
     → Facts P T works list
-facts P T d works list e o l f =
-    let n : total works ≡ length (hits P T) = ap total e in
+facts P T d works list e l f =
+    let n : total works ≡ length (hits P T) = ap total e.0 in
     let w : total works ≤ length list = omega (arith, length_hits P T) in
     record {
       within = w;
       few = omega (arith, length-take-le (total works) list w, length_hits P T);
-      same = bytes_same P T _ _ _ e o (omega arith);
+      same = bytes_same P T _ _ _ e.0 e.1 (omega arith);
     }
 
 pub slice_bounds-starts-end : goal.slice_bounds-starts-end
-slice_bounds-starts-end c =
-    let a = c.args in
-    let f = facts a.p.now a.t.now _ _ c.searched-works.new.starts c.searched-works.ensures.0 c.searched-works.ensures.1 (search rules) (omega arith) in
-    f.within
+slice_bounds-starts-end c = (facts c.args.p.now c.args.t.now _ _ _ c.searched-works.ensures (search rules) (omega arith)).within
 
-pub slice_bounds-report_len-end : goal.slice_bounds-report_len-end
-slice_bounds-report_len-end c =
-    let a = c.args in
-    let f = facts a.p.now a.t.now _ _ c.searched-works.new.starts c.searched-works.ensures.0 c.searched-works.ensures.1 (search rules) (omega arith) in
-    sym (length-take-le _ _ f.within)
+pub slice_bounds-listed-end : goal.slice_bounds-listed-end
+slice_bounds-listed-end c = sym (length-take-le _ _ (facts c.args.p.now c.args.t.now _ _ _ c.searched-works.ensures (search rules) (omega arith)).within)
 
-pub report_len-len-requires : goal.report_len-len-requires
-report_len-len-requires c =
+pub returns-then-out-report_len : goal.returns-then-out-report_len
+returns-then-out-report_len c =
     let a = c.args in
-    let f = facts a.p.now a.t.now _ _ c.searched-works.new.starts c.searched-works.ensures.0 c.searched-works.ensures.1 (search rules) (omega arith) in
-    f.few
-
-pub returns-then-out-len : goal.returns-then-out-len
-returns-then-out-len c =
-    let a = c.args in
-    let f = facts a.p.now a.t.now _ _ c.searched-works.new.starts c.searched-works.ensures.0 c.searched-works.ensures.1 (search rules) (omega arith) in
-    too_short (bytes a.p.now a.t.now) _ (omega (arith, c.if-out-len.true, c.report_len-len.ensures, ap length f.same))
-
-pub slice_bounds-starts-end-2 : goal.slice_bounds-starts-end-2
-slice_bounds-starts-end-2 c =
-    let a = c.args in
-    let f = facts a.p.now a.t.now _ _ c.searched-works.new.starts c.searched-works.ensures.0 c.searched-works.ensures.1 (search rules) (omega arith) in
-    f.within
-
-pub slice_bounds-put_report-end : goal.slice_bounds-put_report-end
-slice_bounds-put_report-end c =
-    let a = c.args in
-    let f = facts a.p.now a.t.now _ _ c.searched-works.new.starts c.searched-works.ensures.0 c.searched-works.ensures.1 (search rules) (omega arith) in
-    sym (length-take-le _ _ f.within)
+    let f = facts a.p.now a.t.now _ _ _ c.searched-works.ensures (search rules) (omega arith) in
+    rw c.at.ensures (too_short (bytes_of (values_of a.p.now a.t.now)) _ (omega (arith, c.if-out-report_len.true, c.report_len.ensures, ap length f.same)))
 
 pub returns : goal.returns
 returns c =
     let a = c.args in
-    let f = facts a.p.now a.t.now _ _ c.searched-works.new.starts c.searched-works.ensures.0 c.searched-works.ensures.1 (search rules) (omega arith) in
+    let f = facts a.p.now a.t.now _ _ _ c.searched-works.ensures (search rules) (omega arith) in
     let d = a.out.now in
     let e = c.put_report.ensures in
-    let due = bytes a.p.now a.t.now in
-    fits due d (omega (arith, c.if-out-len.false, c.report_len-len.ensures, ap length f.same)) _ _
+    let due = bytes_of (values_of a.p.now a.t.now) in
+    fits due d (omega (arith, c.if-out-report_len.false, c.report_len.ensures, ap length f.same)) _ _
     (e.0 ∙ ap length f.same)
     (e.1 ∙ ap (sets d 0) f.same ∙ sets_over d due)

@@ -9,6 +9,7 @@ use Rattle.notation.specs.Spelling.{pick}
 use Rattle.notation.proofs.PickLaws.{length_pick}
 use Rattle.spelling.proofs.LineLaws.{ones_pick, ones_few, ones_all, ones_part}
 use Rattle.spelling.proofs.letter_len.Goals as goal
+use Rattle.spelling.proofs.letter_len.Goals.{then-ones-le1-via-then-ones-le1, then-ones-le1-via-else-ones-le1+then-ones-alphabet}
 
 pub overflow_cast-ones : goal.overflow_cast-ones
 overflow_cast-ones c =
@@ -17,10 +18,12 @@ overflow_cast-ones c =
     omega (arith, few)
 
 pub returns-then-ones-le1 : goal.returns-then-ones-le1
-returns-then-ones-le1 c = sym (ones_few c.args.alphabet.now c.args.c c.requires.1 c.if-ones-le1.true)
-
-pub returns-then-ones-alphabet : goal.returns-then-ones-alphabet
-returns-then-ones-alphabet c = sym (ap length (ones_all c.args.alphabet.now c.args.c c.requires.1 (omega (arith, c.if-ones-le1.false)) c.if-ones-alphabet.true))
+returns-then-ones-le1 c =
+    let A = c.args.alphabet.now in
+    elim c.then-ones-le1.branch [
+      | then-ones-le1-via-then-ones-le1 w ↦ sym (ones_few A c.args.c c.requires.1 w.if-ones-le1.true)
+      | then-ones-le1-via-else-ones-le1+then-ones-alphabet w ↦ sym (ap length (ones_all A c.args.c c.requires.1 (omega (arith, w.if-ones-le1.false)) w.if-ones-alphabet.true))
+    ]
 
 pub overflow_add-result : goal.overflow_add-result
 overflow_add-result c =

@@ -1,9 +1,6 @@
 -- `sunday::next_start` meets its contract: the letter after the window is read only if there is one, and its R gives the shift. Assumes nothing.
-use Prim.Native.Nat.{◌+◌, ◌≤◌}
-use mathlib.Core.Path.{◌≡◌, sym}
+use mathlib.Core.Path.{sym}
 use native.Mathlib.Omega.{arith}
-use lib.ListN.{length}
-use Rattle.sunday.specs.Sunday.{next_start}
 use Rattle.sunday.proofs.SundayLaws.{next_end, next_by}
 use Rattle.sunday.proofs.next_start.Goals as goal
 
@@ -11,13 +8,7 @@ pub returns-then-e-t : goal.returns-then-e-t
 returns-then-e-t c = sym (next_end _ _ _ c.if-e-t.true)
 
 pub overflow_sub-result : goal.overflow_sub-result
-overflow_sub-result c =
-    let shifted : let a = c.args in
-    (c.after_r.result ≤ length a.p.now) × (next_start a.p.now a.t.now a.i + c.after_r.result ≡ a.i + length a.p.now + 1) = next_by _ _ _ c.if-e-t.false _ c.after_r.ensures in
-    omega (arith, shifted)
+overflow_sub-result c = omega (arith, next_by _ _ _ c.if-e-t.false _ c.after_r.ensures)
 
 pub returns : goal.returns
-returns c =
-    let shifted : let a = c.args in
-    (c.after_r.result ≤ length a.p.now) × (next_start a.p.now a.t.now a.i + c.after_r.result ≡ a.i + length a.p.now + 1) = next_by _ _ _ c.if-e-t.false _ c.after_r.ensures in
-    omega (arith, shifted)
+returns c = omega (arith, next_by _ _ _ c.if-e-t.false _ c.after_r.ensures)

@@ -1,22 +1,10 @@
--- `sunday::search` meets its contract: what the checks say picks the case. Assumes nothing.
-use mathlib.Core.Path.{sym}
-use native.Mathlib.Omega.{arith}
-use Rattle.inputs.proofs.CheckLaws.{sized}
-use Rattle.inputs.proofs.SearchLaws.{search_refused, search_found}
+-- `sunday::search` meets its contract: the search of any engine keeps the promise, and what its run counts is the bound. Assumes nothing.
+use Rattle.inputs.proofs.SearchLaws.{scan_most}
 use Rattle.sunday.specs.Sunday.{sunday_run}
 use Rattle.sunday.proofs.SundayLaws.{sunday_scan}
 use Rattle.sunday.proofs.search.Goals as goal
 
-pub run-requires : goal.run-requires
-run-requires c = sized _ _ _ _ _ _ (sym c.in-Passed.ensures)
-
-pub returns-in-Refused : goal.returns-in-Refused
-returns-in-Refused c = record { promise = search_refused sunday_run _ _ _ _ _ _ _ _ (sym c.in-Refused.ensures); bound = omega arith }
-
-pub returns-in-Passed : goal.returns-in-Passed
-returns-in-Passed c =
-    let e = c.run.ensures in
-    record {
-      promise = search_found sunday_run _ _ _ _ _ _ _ _ _ (sym c.in-Passed.ensures) e.0 e.1;
-      bound = rw e.0 (sunday_scan _ _);
-    }
+pub returns : goal.returns
+returns c =
+    let a = c.args in
+    record { promise = c.search.ensures; bound = scan_most sunday_run _ _ _ _ _ _ _ _ _ c.search.ensures _ (sunday_scan a.p.now a.t.now) }

@@ -4,7 +4,7 @@ use Rattle.codes.proofs.SignedLaws.{read_back}
 use Rattle.bound.proofs.CallLaws.{choice_called}
 use Rattle.bound.proofs.c.choice_called.Goals as goal
 
-pub returns : goal.returns
-returns c =
+pub returns-in-Err : goal.returns-in-Err
+returns-in-Err c =
     let a = c.args in
-    choice_called _ _ _ a.k a.p.now a.t.now a.start a.choice.now _ _ c.choose.ensures _ (read_back _ c.told_choice.type_inv ∙ c.told_choice.ensures)
+    choice_called _ _ _ a.k a.p.now a.t.now a.start a.choice.now _ _ c.choose.ensures _ (rw c.in-Err.is (read_back _ c.refusal_code.type_inv ∙ c.refusal_code.ensures))

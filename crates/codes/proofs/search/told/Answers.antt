@@ -10,10 +10,10 @@ pub bounds-work-1 : goal.bounds-work-1
 bounds-work-1 c = simp length-set (search rules)
 
 pub length_code-requires : goal.length_code-requires
-length_code-requires c = rw c.in-Found.is at c.requires.0
+length_code-requires c = rw c.in-Ok.is at c.requires.0
 
-pub returns-in-Refused : goal.returns-in-Refused
-returns-in-Refused c = rw c.in-Refused.is (read_back _ c.refusal_code.type_inv ∙ c.refusal_code.ensures, refl)
+pub returns-in-Err : goal.returns-in-Err
+returns-in-Err c = rw c.in-Err.is (read_back _ c.refusal_code.type_inv ∙ c.refusal_code.ensures, refl)
 
-pub returns-in-Found : goal.returns-in-Found
-returns-in-Found c = rw c.in-Found.is (read_back _ c.length_code.type_inv ∙ c.length_code.ensures, three_over _ _ _ c.args.work.now c.requires.1)
+pub returns-in-Ok : goal.returns-in-Ok
+returns-in-Ok c = rw c.in-Ok.is (read_back _ c.length_code.type_inv ∙ c.length_code.ensures, three_over _ _ _ c.args.work.now c.requires.1)

@@ -4,9 +4,9 @@ use Rattle.codes.specs.Codes.{refused_code}
 use Rattle.codes.proofs.SignedLaws.{read_back}
 use Rattle.codes.proofs.search.too_few.Goals as goal
 
-pub returns-in-Refused : goal.returns-in-Refused
-returns-in-Refused c = read_back _ c.refusal_code.type_inv ∙ c.refusal_code.ensures ∙ rw (sym c.in-Refused.ensures)
+pub returns-in-Err : goal.returns-in-Err
+returns-in-Err c = read_back _ c.refusal_code.type_inv ∙ c.refusal_code.ensures ∙ rw (sym c.in-Err.ensures)
 
-pub returns-in-Passed : goal.returns-in-Passed
+pub returns-in-Ok : goal.returns-in-Ok
 unfolding refused_code
-returns-in-Passed c = read_back _ c.refusal_code-in-Passed.type_inv ∙ c.refusal_code-in-Passed.ensures ∙ rw (sym c.in-Passed.ensures)
+returns-in-Ok c = read_back _ c.refusal_code-in-Ok.type_inv ∙ c.refusal_code-in-Ok.ensures ∙ rw (c.at.ensures, sym c.in-Ok.ensures)

@@ -1,9 +1,6 @@
-use Prim.Native.Nat.{◌-◌}
-use Rattle.decimal.proofs.FrontLaws.{Valued}
+use Rattle.std.proofs.Common.{◌≡◌, ◌^◌, ◌<◌, take}
+use Rattle.decimal.specs.Decimal.{value}
 use Rattle.decimal.proofs.count.value_of.Given as goal
 
-abbrev pub invariant-loop-i : goal.invariant-loop-i
-invariant-loop-i l = Valued l.sheet l.from l.n l.v l.i
-
-abbrev pub decreases-loop-i : goal.decreases-loop-i
-decreases-loop-i l = l.n - l.i
+abbrev pub invariant-loop-b : goal.invariant-loop-b
+invariant-loop-b l = record { read : l.v ≡ value 0 (take l.b-index l.digits); small : l.v < 10 ^ l.b-index }

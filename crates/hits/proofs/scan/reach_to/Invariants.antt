@@ -1,17 +1,7 @@
-use mathlib.Core.Path.{◌≡◌}
-use mathlib.Core.List.{List}
-use Prim.Native.Nat.{ℕ, ◌-◌, ◌≤◌}
+use Rattle.std.proofs.Common.{◌≡◌, ◌-◌}
 use Rattle.hits.specs.Scans.{reach}
 use Rattle.hits.proofs.scan.reach_to.Given as goal
 
--- the scan has come to j, and goes on from there as far as from a
-pub record CameTo (P T : List ℕ) (i a b j : ℕ) : Type 0 where
-  pub from : a ≤ j
-  pub upto : j ≤ b
-  pub ahead : reach P T i a (b - a) ≡ reach P T i j (b - j)
-
+-- from j on the scan goes as far as from a
 abbrev pub invariant-loop-j : goal.invariant-loop-j
-invariant-loop-j l = CameTo l.p l.t l.i l.a l.b l.j
-
-abbrev pub decreases-loop-j : goal.decreases-loop-j
-decreases-loop-j l = l.b - l.j
+invariant-loop-j l = reach l.p l.t l.i l.a (l.b - l.a) ≡ reach l.p l.t l.i l.j (l.b - l.j)

@@ -1,12 +1,13 @@
 -- `inputs::checks::checked_at` meets its contract: what the checks of a search say picks the case. Assumes nothing.
-use mathlib.Core.Path.{sym}
+use mathlib.Core.Path.{sym, ◌∙◌}
+use borrow.Author.Rules.{rules}
 use Rattle.inputs.specs.Refusals.{verdict_at}
 use Rattle.inputs.proofs.checks.checked_at.Goals as goal
 
-pub returns-in-Refused : goal.returns-in-Refused
+pub returns-in_err-checked : goal.returns-in_err-checked
 unfolding verdict_at
-returns-in-Refused c = rw (sym c.in-Refused.ensures)
+returns-in_err-checked c = rw (sym c.checked.ensures ∙ c.in_err-checked.was) (search rules)
 
-pub returns-in-Passed : goal.returns-in-Passed
+pub returns : goal.returns
 unfolding verdict_at
-returns-in-Passed c = rw (sym c.in-Passed.ensures) c.placed.ensures
+returns c = rw (sym c.checked.ensures ∙ c.in_ok-checked.was) c.placed.ensures

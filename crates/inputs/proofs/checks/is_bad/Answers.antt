@@ -8,4 +8,4 @@ returns-then-c-eq0 c = let a = c.args in bad_zero a.k a.marks a.c c.if-c-eq0.tru
 
 pub returns : goal.returns
 returns c = let a = c.args in
-    rw (one_shifted a.k (omega arith), c.wide.ensures) (bad_some a.k a.marks a.c c.if-c-eq0.false)
+    rw (one_shifted a.k (omega arith), c.from.ensures) (bad_some a.k a.marks a.c c.if-c-eq0.false)

@@ -1,58 +1,25 @@
 -- `notation::alphabet::read_line` meets its contract: the bytes are read, and the byte after them decides. Assumes nothing.
-use mathlib.Core.Path.{◌≡◌, sym}
-use Prim.Native.Nat.{◌+◌, ◌≤◌}
-use native.Mathlib.Omega.{arith}
-use mathlib.Core.List.{[]}
-use lib.ListN.{length, drop}
-use Rattle.notation.specs.Alphabet.{fresh_from}
-use Rattle.notation.specs.declared.alphabet.Bytes.TheVariants.{After}
-use Rattle.notation.proofs.FreshLaws.{line_wrong, line_short, line_ended, line_unended, bytes_within}
+use Rattle.std.proofs.Common.{◌≤◌, length, arith}
+use Rattle.std.proofs.lemmas.Result.{err_from_is_err_and}
+use Rattle.notation.proofs.FreshLaws.{line_wrong, line_within, line_short, line_ended, line_unended}
 use Rattle.notation.proofs.alphabet.read_line.Goals as goal
+use Rattle.notation.proofs.alphabet.read_line.Goals.{then-end-sheet-via-then-end-sheet, then-end-sheet-via-else-end-sheet+then-sheet-end-ne10}
+
+pub returns-in_err-end : goal.returns-in_err-end
+returns-in_err-end c =
+    let p = err_from_is_err_and c.from_residual.result c.from_residual.ensures.1 in
+    rw (p.1, p.2) (line_wrong _ _ _ _ c.in_err-end.ensures)
+
+pub bounds-sheet-end : goal.bounds-sheet-end
+bounds-sheet-end c = omega (arith, line_within _ _ _ _ c.requires c.in_ok-end.ensures)
 
 pub returns-then-end-sheet : goal.returns-then-end-sheet
 returns-then-end-sheet c =
-    let read : let a = c.args in
-    fresh_from [] a.k a.from (drop a.from a.sheet.now) ≡ After c.in-After.end = sym c.in-After.ensures in
-    let within : let a = c.args in
-    (c.in-After.end ≡ a.from + a.k) × (c.in-After.end ≤ length a.sheet.now) = bytes_within c.args.sheet.now c.args.from c.args.k _ c.requires read in
-    let a = c.args in
-    sym (line_short a.sheet.now a.from a.k _ read within.0 c.if-end-sheet.true)
+    let within : c.in_ok-end.end ≤ length c.args.sheet.now = line_within _ _ _ _ c.requires c.in_ok-end.ensures in
+    elim c.then-end-sheet.branch [
+      | then-end-sheet-via-then-end-sheet v ↦ line_short _ _ _ _ c.requires c.in_ok-end.ensures v.if-end-sheet.true
+      | then-end-sheet-via-else-end-sheet+then-sheet-end-ne10 v ↦ line_unended _ _ _ _ c.requires c.in_ok-end.ensures (omega (arith, v.if-end-sheet.false)) v.if-sheet-end-ne10.true
+    ]
 
-pub bounds-sheet-end : goal.bounds-sheet-end
-bounds-sheet-end c =
-    let read : let a = c.args in
-    fresh_from [] a.k a.from (drop a.from a.sheet.now) ≡ After c.in-After.end = sym c.in-After.ensures in
-    let within : let a = c.args in
-    (c.in-After.end ≡ a.from + a.k) × (c.in-After.end ≤ length a.sheet.now) = bytes_within c.args.sheet.now c.args.from c.args.k _ c.requires read in
-    omega (arith, within)
-
-pub overflow_add-result : goal.overflow_add-result
-overflow_add-result c =
-    let read : let a = c.args in
-    fresh_from [] a.k a.from (drop a.from a.sheet.now) ≡ After c.in-After.end = sym c.in-After.ensures in
-    let within : let a = c.args in
-    (c.in-After.end ≡ a.from + a.k) × (c.in-After.end ≤ length a.sheet.now) = bytes_within c.args.sheet.now c.args.from c.args.k _ c.requires read in
-    omega (arith, within)
-
-pub returns-then-sheet-end-eq10 : goal.returns-then-sheet-end-eq10
-returns-then-sheet-end-eq10 c =
-    let read : let a = c.args in
-    fresh_from [] a.k a.from (drop a.from a.sheet.now) ≡ After c.in-After.end = sym c.in-After.ensures in
-    let within : let a = c.args in
-    (c.in-After.end ≡ a.from + a.k) × (c.in-After.end ≤ length a.sheet.now) = bytes_within c.args.sheet.now c.args.from c.args.k _ c.requires read in
-    let a = c.args in
-    sym (line_ended a.sheet.now a.from a.k _ read within.0 (omega (arith, within)) c.if-sheet-end-eq10.true)
-
-pub returns-in-Wrong : goal.returns-in-Wrong
-returns-in-Wrong c =
-    let a = c.args in
-    sym (line_wrong a.sheet.now a.from a.k _ (sym c.in-Wrong.ensures))
-
-pub returns-else-sheet-end-eq10 : goal.returns-else-sheet-end-eq10
-returns-else-sheet-end-eq10 c =
-    let read : let a = c.args in
-    fresh_from [] a.k a.from (drop a.from a.sheet.now) ≡ After c.in-After.end = sym c.in-After.ensures in
-    let within : let a = c.args in
-    (c.in-After.end ≡ a.from + a.k) × (c.in-After.end ≤ length a.sheet.now) = bytes_within c.args.sheet.now c.args.from c.args.k _ c.requires read in
-    let a = c.args in
-    sym (line_unended a.sheet.now a.from a.k _ read within.0 (omega (arith, within)) c.if-sheet-end-eq10.false)
+pub returns : goal.returns
+returns c = line_ended _ _ _ _ c.requires c.in_ok-end.ensures (omega (arith, line_within _ _ _ _ c.requires c.in_ok-end.ensures)) c.if-sheet-end-ne10.false

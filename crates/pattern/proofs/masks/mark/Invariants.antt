@@ -1,10 +1,12 @@
-use lib.Bits.{bit_or}
-use lib.ListN.{get_or, set}
-use Rattle.letters.proofs.MemberLaws.{Walking}
+use Rattle.std.proofs.Common.{◌≡◌, ℕ, List, get_or, set, bit_or}
+use Rattle.letters.specs.declared.letter.TheConstants.Letter.{MAX_K}
+use Rattle.letters.specs.Members.{members, walked}
 use Rattle.pattern.proofs.masks.mark.Given as goal
 
-abbrev pub invariant-loop-left : goal.invariant-loop-left
-invariant-loop-left l = Walking (λ x b. set x b (bit_or (get_or x b 0) l.place)) l.c l.initial.rows l.left l.rows
+-- a member's row takes the place in
+abbrev step : ℕ → List ℕ → ℕ → List ℕ
+step place x b = set x b (bit_or (get_or x b 0) place)
 
-abbrev pub decreases-loop-left : goal.decreases-loop-left
-decreases-loop-left l = l.left
+-- the members to come bring the rows so far to where all of them bring the first rows
+abbrev pub invariant-loop-b : goal.invariant-loop-b
+invariant-loop-b l = walked (step l.place) l.rows (members MAX_K l.b-iterator.left) ≡ walked (step l.place) l.initial.rows (members MAX_K l.c)

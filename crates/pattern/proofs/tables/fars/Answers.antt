@@ -1,16 +1,15 @@
--- `tables::fars` meets its contract: the entries below s are filled. Assumes nothing.
+-- `tables::fars` meets its contract: each entry below s is told by `far`. Assumes nothing.
 use native.Mathlib.Omega.{arith}
-use Rattle.lent.proofs.FillLaws.{fill_start, fill_on}
+use Rattle.pattern.proofs.TableLaws.{told_on}
+use Rattle.pattern.proofs.tables.fars.Goals.{else-loop-s-test, then-loop-s-test+else-s-m}
 use Rattle.pattern.proofs.tables.fars.Goals as goal
 
-pub loop-s-init : goal.loop-s-init
-loop-s-init c = (omega arith, omega arith, fill_start _ _ _)
-
-pub overflow_cast-far : goal.overflow_cast-far
-overflow_cast-far c = omega (arith, c.far_of.ensures.1)
-
 pub loop-s-preserved : goal.loop-s-preserved
-loop-s-preserved c = (omega arith, omega arith, fill_on c.loop-s.invariant.2 (omega arith) _ c.far_of.ensures.0)
+loop-s-preserved g c = told_on c.loop-s.invariant (omega arith) c.far.ensures
 
 pub returns : goal.returns
-returns c = λ s a b. c.loop-s.invariant.2.done s a (omega arith)
+returns g c = λ s a b.
+    elim c.loop-s-test.branch [
+      | else-loop-s-test w ↦ rw w.all-is (c.loop-s.invariant.told s a (omega arith))
+      | then-loop-s-test+else-s-m w ↦ let t = told_on c.loop-s.invariant (omega arith) w.far.ensures in rw w.all-is (t.told s a (omega arith))
+    ]

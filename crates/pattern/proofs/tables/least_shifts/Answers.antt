@@ -7,14 +7,11 @@ use Rattle.pattern.proofs.tables.least_shifts.Goals as goal
 pub loop-h-init : goal.loop-h-init
 loop-h-init c = built_start _ _ _ (omega arith)
 
-pub next_far-s-requires : goal.next_far-s-requires
-next_far-s-requires c = omega arith
-
 pub overflow_cast-out : goal.overflow_cast-out
 overflow_cast-out c = omega (arith, next_top c.loop-h.invariant (omega arith) _ c.next_far-s.ensures)
 
 pub loop-h-preserved : goal.loop-h-preserved
 loop-h-preserved c = built_on c.loop-h.invariant (omega arith) _ c.next_far-s.ensures (omega arith)
 
-pub returns : goal.returns
-returns c = built_end c.loop-h.invariant (omega arith) _ refl
+pub returns-2 : goal.returns-2
+returns-2 c = built_end (built_on c.loop-h.invariant (omega arith) _ c.next_far-s.ensures (omega arith)) (omega arith) _ refl

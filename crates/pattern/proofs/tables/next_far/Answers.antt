@@ -1,17 +1,16 @@
--- `tables::next_far` meets its contract: no entry passed is large enough. Assumes nothing.
+-- `tables::next_far` meets its contract: the first entry that is large enough is the least. Assumes nothing.
 use native.Mathlib.Omega.{arith}
-use borrow.Author.Tests.{le-leb, lt-leb}
-use Rattle.shifts.proofs.LeastLaws.{seek_start, seek_here, seek_on, seek_end}
+use mathlib.Core.Path.{◌≡◌, ◌∙◌}
+use mathlib.Core.Bool.{true, false}
+use Rattle.std.proofs.Common.{rules, tests}
+use Rattle.std.proofs.lemmas.Iterator.{first_from_Range}
+use Rattle.shifts.proofs.LeastLaws.{least_found}
+use Rattle.pattern.proofs.TableLaws.{enough}
 use Rattle.pattern.proofs.tables.next_far.Goals as goal
 
-pub loop-x-init : goal.loop-x-init
-loop-x-init c = seek_start _ _ _ (omega arith)
-
-pub returns-then-h-index : goal.returns-then-h-index
-returns-then-h-index c = seek_here _ c.loop-x.invariant (le-leb _ _ (rw c.index.ensures at c.if-h-index.true))
-
-pub loop-x-preserved : goal.loop-x-preserved
-loop-x-preserved c = seek_on _ c.loop-x.invariant (omega arith) (lt-leb _ _ (rw c.index.ensures at c.if-h-index.false))
-
 pub returns : goal.returns
-returns c = seek_end _ c.loop-x.invariant (omega arith)
+returns c =
+    let b = enough c.args.far.now c.args.h in
+    c.unwrap_or.ensures
+    ∙ least_found b c.args.m c.args.s c.find.result (omega arith)
+    (first_from_Range _ _ _ _ (λ x. b x ≡ true) (λ x. b x ≡ false) c.find.ensures.ran (λ x q k. search (rules, tests)) (λ x q k. search (rules, tests)))

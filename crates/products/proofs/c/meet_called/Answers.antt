@@ -5,11 +5,5 @@ use Rattle.products.specs.Meetings.{pair_verdict, products_meet}
 use Rattle.products.proofs.MeetingLaws.{meet_told}
 use Rattle.products.proofs.c.meet_called.Goals as goal
 
-pub returns-then-yes : goal.returns-then-yes
-returns-then-yes c = meet_told (pair_verdict _ _ _ _ _) (products_meet _ _) _ _ c.products_meet.ensures (rw (c.in-Known.is, c.if-yes.true))
-
-pub returns-in-Refused : goal.returns-in-Refused
-returns-in-Refused c = meet_told (pair_verdict _ _ _ _ _) (products_meet _ _) _ _ c.products_meet.ensures (rw c.in-Refused.is (read_back _ c.refusal_code.type_inv ∙ c.refusal_code.ensures))
-
-pub returns-else-yes : goal.returns-else-yes
-returns-else-yes c = meet_told (pair_verdict _ _ _ _ _) (products_meet _ _) _ _ c.products_meet.ensures (rw (c.in-Known.is, c.if-yes.false))
+pub returns-in-Err : goal.returns-in-Err
+returns-in-Err c = meet_told (pair_verdict _ _ _ _ _) (products_meet _ _) _ _ c.products_meet.ensures (rw c.in-Err.is (read_back _ c.refusal_code.type_inv ∙ c.refusal_code.ensures))

@@ -1,4 +1,4 @@
-use Prim.Native.Nat.{ℕ, ◌+◌, ◌-◌, ◌*◌, ◌≤◌}
+use Prim.Native.Nat.{ℕ, ◌+◌, ◌*◌, ◌≤◌}
 use mathlib.Core.Path.{◌≡◌}
 use mathlib.Core.List.{List, map}
 use lib.ListN.{length, drop}
@@ -10,12 +10,8 @@ use Rattle.reportbytes.proofs.lengths.engines_len.Given as goal
 
 -- the sum, with the lines of the engines from i on, is the whole
 pub record Summing (works : List Work) (sum i : ℕ) : Type 0 where
-  pub within : i ≤ length the_six
   pub small : sum ≤ 72 * i
   pub whole : sum + length (engine_lines (drop i the_six) (drop i (map run_in works))) ≡ length (engine_lines the_six (map run_in works))
 
 abbrev pub invariant-loop-i : goal.invariant-loop-i
 invariant-loop-i l = Summing l.works l.sum l.i
-
-abbrev pub decreases-loop-i : goal.decreases-loop-i
-decreases-loop-i l = length the_six - l.i

@@ -1,6 +1,5 @@
-use Prim.Native.Nat.{◌-◌, ◌≤◌}
 use mathlib.Core.List.{map}
-use lib.ListN.{length, drop}
+use lib.ListN.{drop}
 use Rattle.lent.proofs.StoreLaws.{Storing}
 use Rattle.engines.specs.Engines.{the_six}
 use Rattle.reportbytes.specs.Values.{run_in}
@@ -8,7 +7,4 @@ use Rattle.reportbytes.specs.Bytes.{engine_lines}
 use Rattle.reportbytes.proofs.lines.put_engines.Given as goal
 
 abbrev pub invariant-loop-i : goal.invariant-loop-i
-invariant-loop-i l = (l.i ≤ length the_six) × Storing l.initial.out l.at (engine_lines the_six (map run_in l.works)) (engine_lines (drop l.i the_six) (drop l.i (map run_in l.works))) l.out l.e
-
-abbrev pub decreases-loop-i : goal.decreases-loop-i
-decreases-loop-i l = length the_six - l.i
+invariant-loop-i l = Storing l.initial.out l.at (engine_lines the_six (map run_in l.works)) (engine_lines (drop l.i the_six) (drop l.i (map run_in l.works))) l.out l.end

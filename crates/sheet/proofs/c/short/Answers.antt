@@ -1,13 +1,14 @@
 -- `sheet::c::short` meets its contract. Assumes nothing.
-use mathlib.Core.Path.{◌∙◌}
+use mathlib.Core.Path.{ap, ◌∙◌}
+use Rattle.codes.specs.Codes.{refused_code}
 use Rattle.inputs.specs.Refusals.{refuse, with_room}
 use Rattle.codes.proofs.SignedLaws.{read_back}
 use Rattle.sheet.proofs.c.short.Goals as goal
 
-pub returns-in-Refused : goal.returns-in-Refused
+pub returns-in-Err : goal.returns-in-Err
 unfolding with_room
-returns-in-Refused c = rw c.in-Refused.is (read_back _ c.refusal_code.type_inv ∙ c.refusal_code.ensures)
+returns-in-Err c = rw c.in-Err.is (read_back _ c.refusal_code.type_inv ∙ c.refusal_code.ensures)
 
-pub returns-in-Read : goal.returns-in-Read
+pub returns-in-Ok : goal.returns-in-Ok
 unfolding with_room refuse
-returns-in-Read c = rw c.in-Read.is (read_back _ c.refusal_code-in-Read.type_inv ∙ c.refusal_code-in-Read.ensures)
+returns-in-Ok c = rw c.in-Ok.is (read_back _ c.refusal_code-in-Ok.type_inv ∙ c.refusal_code-in-Ok.ensures ∙ ap refused_code c.at.ensures)

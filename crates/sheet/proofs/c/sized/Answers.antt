@@ -12,10 +12,10 @@ use Rattle.sheet.proofs.c.sized.Goals as goal
 pub bounds-sizes-1 : goal.bounds-sizes-1
 bounds-sizes-1 c = simp length-set (search rules)
 
-pub returns-in-Refused : goal.returns-in-Refused
-returns-in-Refused c = rw c.in-Refused.is (read_back _ c.refusal_code.type_inv ∙ c.refusal_code.ensures, refl)
+pub returns-in-Err : goal.returns-in-Err
+returns-in-Err c = rw c.in-Err.is (read_back _ c.refusal_code.type_inv ∙ c.refusal_code.ensures, refl)
 
-pub returns-in-Read : goal.returns-in-Read
-returns-in-Read c =
+pub returns-in-Ok : goal.returns-in-Ok
+returns-in-Ok c =
     let z = c.args.sizes.now in
-    rw c.in-Read.is (refl, ap (λ (k : ℕ). sets z 0 (k ∷ c.in-Read.z.m ∷ c.in-Read.z.n ∷ [])) c.wide.ensures ∙ sets_over z _)
+    rw c.in-Ok.is (refl, ap (λ (k : ℕ). sets z 0 (k ∷ c.in-Ok.z.m ∷ c.in-Ok.z.n ∷ [])) c.from.ensures ∙ sets_over z _)

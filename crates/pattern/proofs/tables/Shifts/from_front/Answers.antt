@@ -1,4 +1,5 @@
 -- `Shifts::from_front` meets its contract: the least s that is far enough is the least shift. Assumes nothing.
+use Rattle.std.proofs.Common.{rules}
 use mathlib.Core.Path.{◌∙◌}
 use Rattle.pattern.specs.Tables.{front_shifts}
 use Rattle.pattern.proofs.ShiftTable.{far_shifts, front_far_lem}
@@ -6,4 +7,4 @@ use Rattle.pattern.proofs.tables.Shifts.from_front.Goals as goal
 
 pub returns : goal.returns
 unfolding front_shifts
-returns c = c.least_shifts-by.ensures ∙ far_shifts _ _ c.fars-far.result _ _ c.fars-far.ensures (λ h s l. front_far_lem _ h s l)
+returns c = c.least_shifts-by.ensures ∙ far_shifts _ _ c.fars-far.result _ _ (λ s a b. let x = c.fars-far.ensures s a b in search rules) (λ h s l. front_far_lem _ h s l)
