@@ -21,9 +21,9 @@
  * slice keeps its contents.
  *
  * STACK. Bytes of stack that a call uses, measured on x86-64 by c/stack.c, which runs each call on
- * a thread whose stack was filled with a pattern: report 68,065 (it holds the text and the list of
- * hits of a sheet), kmp 4,216, to_products 2,072, read_sheet 1,921, bm 1,272, bound 1,088,
- * bound_choice 848, hybrid 384, every other call less.
+ * a thread whose stack was filled with a pattern: report 68,281 (it holds the text and the list of
+ * hits of a sheet), kmp 4,216, read_sheet 4,152, bound_choice 2,232, bound 2,152, to_products 2,072,
+ * bm 1,032, hybrid 392, every other call less.
  */
 #ifndef BREAKWARP_H
 #define BREAKWARP_H
@@ -35,7 +35,7 @@
 extern "C" {
 #endif
 
-#define BREAKWARP_VERSION "1.4.1"
+#define BREAKWARP_VERSION "1.4.2"
 
 /* Limits. */
 #define BREAKWARP_MAX_K 32            /* base letters */

@@ -3,12 +3,12 @@
    bm, sunday and hybrid beside the C engines; the bound list beside brute. By another name nothing is moved. A change of the source before such a loop moves it again: then `make bench` shows it, and these numbers are to be found anew. */
 SECTIONS
 {
-  ".text.brute::search" 0 : { . = . + 40; *(".text.brute::search") }
-  ".text.kmp::search" 0 : { . = . + 60; *(".text.kmp::search") }
-  ".text.bm::search" 0 : { . = . + 8; *(".text.bm::search") }
-  ".text.sunday::search" 0 : { . = . + 24; *(".text.sunday::search") }
-  ".text.shiftand::search" 0 : { . = . + 48; *(".text.shiftand::search") }
-  ".text.hybrid::search" 0 : { . = . + 22; *(".text.hybrid::search") }
+  ".text.search.brute" 0 : { . = . + 40; *(.text.inputs??rule??search???12?brute*) }
+  ".text.search.kmp" 0 : { . = . + 52; *(.text.inputs??rule??search???8?kmp*) }
+  ".text.search.bm" 0 : { . = . + 8; *(.text.inputs??rule??search???6?bm*) }
+  ".text.search.sunday" 0 : { . = . + 24; *(.text.inputs??rule??search???14?sunday*) }
+  ".text.search.shiftand" 0 : { . = . + 48; *(.text.inputs??rule??search???[!0-9]*) }
+  ".text.search.hybrid" 0 : { . = . + 22; *(.text.inputs??rule??search???14?hybrid*) }
   ".text.breakwarp_first" 0 : { . = . + 32; *(".text.breakwarp_first") }
   ".text.breakwarp_bound" 0 : { . = . + 32; *(".text.breakwarp_bound") }
 }
