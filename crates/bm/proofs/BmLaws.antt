@@ -13,6 +13,8 @@ use Rattle.letters.specs.Sizes.{Sized}
 use Rattle.letters.proofs.Truth.{bool_cases}
 use Rattle.hits.specs.Hits.{within, hit_at, hits}
 use Rattle.hits.specs.Turns.{Turn, Run, idle}
+use Rattle.hits.specs.Counts.{turn_of}
+use Rattle.hits.specs.declared.work.Turned.{Turned}
 use Rattle.hits.proofs.HitLaws.{hit_is, no_hit, one_from}
 use Rattle.hits.proofs.RunLaws.{Sound, finds_all, bounded, by_start, per_start, no_start, start_small, shift_small}
 use Rattle.inputs.specs.Starts.{Settling}
@@ -115,6 +117,11 @@ module _ (P T : List ℕ) (i : ℕ) where
       (λ (k : end_met P T i < length P). lt-leb (length P) (end_met P T i) k ∙ sym (ne_eqb (end_met P T i) (length P) (λ e. omega arith))))
 
 module _ (P T : List ℕ) where
+  -- a turn moves on, and not past the text's end
+  pub turn_ahead : 0 < length P → (i : ℕ) → i + length P ≤ length T → (r : Turned) → turn_of i r ≡ bm_turn P T i → (i < r.next) × (r.next ≤ length T)
+  unfolding bm_turn
+  turn_ahead pos i l r e = omega (arith, ap (λ (t : Turn ℕ). t.next) e, first_ge P T i (end_met P T i), by_le P T i)
+
   -- each turn settles the starts that it passes
   pub settles : Settling P T (bm_turn P T)
   unfolding bm_turn

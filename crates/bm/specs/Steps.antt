@@ -3,13 +3,13 @@ use Rattle.std.specs.Prelude.{ℕ, ◌+◌, ◌-◌, ◌≤◌, ◌≡◌, Bool,
 use Rattle.letters.specs.Sizes.{SizedPattern}
 use Rattle.hits.specs.Singles.{all_single}
 use Rattle.hits.specs.declared.scan.Back.{Back}
-use Rattle.pattern.specs.Tables.{end_shifts}
+use Rattle.pattern.specs.Tables.{EndShifts}
 use Rattle.bm.specs.Bm.{end_met}
 
 -- what is worked out from a pattern P within its limit M: its shifts from the end, and whether it is all single
 pub record BmReady (M : ℕ) (P by : List ℕ) (whole : Bool) : Type 0 where
   pub sized : SizedPattern M P
-  pub shifts : by ≡ end_shifts M P
+  pub ends : EndShifts P by
   pub single : whole ≡ all_single P 0 (length P)
 
 -- the scan at start i stopped at b: how many letters are left, and whether P and the text letters that meet are all single

@@ -24,7 +24,7 @@ ghost use Rattle.bm.specs.Steps.{BmReady, Stopped};
 use hits::scan::{Back, scan_back};
 use hits::work::{Turned, Work};
 use inputs::refusal::Refusal;
-use inputs::rule::Rule;
+use inputs::rule::{Rule, Searches};
 use inputs::starts::{Starts, run_starts};
 use letters::letter::Letter;
 use letters::strings::{Pattern, Text};
@@ -121,6 +121,12 @@ impl Rule for Bm {
             whole: p.len() <= sure,
         };
         run_starts(&ready, p, t, list)
+    }
+}
+
+impl Searches for Bm {
+    fn searched(k: u32, p: &[u32], t: &[u32], list: &mut [u32]) -> Result<Work, Refusal> {
+        search(k, p, t, list)
     }
 }
 

@@ -11,7 +11,7 @@ ghost use Rattle.brute.specs.Brute.{brute_turn, brute_run};
 use hits::scan::reach_to;
 use hits::work::{Turned, Work};
 use inputs::refusal::Refusal;
-use inputs::rule::Rule;
+use inputs::rule::{Rule, Searches};
 use inputs::starts::{Starts, run_starts};
 use letters::letter::Letter;
 use letters::strings::{Pattern, Text};
@@ -51,6 +51,12 @@ impl Rule for Brute {
     // The run over all starts.
     fn run(p: &[u32], t: &[u32], list: &mut [u32]) -> Work {
         run_starts(&Brute, p, t, list)
+    }
+}
+
+impl Searches for Brute {
+    fn searched(k: u32, p: &[u32], t: &[u32], list: &mut [u32]) -> Result<Work, Refusal> {
+        search(k, p, t, list)
     }
 }
 

@@ -6,16 +6,16 @@ use mathlib.Core.Logic.{◌⊎◌, inl, inr, ⊎_elim}
 use Prim.Native.Nat.{ℕ, zero, suc, ◌+◌, ◌-◌, ◌≤◌, ◌<◌}
 use native.Mathlib.Nat.{zero-add}
 use native.Mathlib.Omega.{arith}
-use borrow.Author.Tests.{eqb-true, eq-eqb, ltb-true, ltb-false}
+use borrow.Author.Tests.{eqb-true, eqb-false, eq-eqb, ltb-false}
 use lib.Dec.{eqb, ltb}
-use lib.ListN.{length, get_or, replicate, take, drop}
+use lib.ListN.{length, get_or, set, replicate, take, drop}
+use lib.Seq.{get_or-set_same, get_or-set_other}
 use Rattle.std.specs.List.{position, position_or_len, zip}
 use Rattle.std.specs.Option.{unwrap_or}
 use Rattle.std.proofs.lemmas.List.Sums.{position_or_len_is}
 use Rattle.std.proofs.lemmas.Slice.Zip.{get_or-zip, length-zip}
 use Rattle.std.proofs.lemmas.List.{length-take, length-drop, get_or-take, get_or-drop}
 use Rattle.std.proofs.lemmas.Grind.{common_steps}
-use Rattle.lent.proofs.FillLaws.{Filled}
 use Rattle.letters.specs.Letters.{single}
 use Rattle.letters.proofs.Truth.{bool_cases}
 use Rattle.letters.proofs.LetterLaws.{shared_member, member_shared}
@@ -25,15 +25,16 @@ use Rattle.choices.specs.Choices.{Chosen}
 use Rattle.choices.specs.Candidates.{Candidates, CutBy, stands_at, tie_of, Tied, Backward, NeverAhead, joined, passed, stirred, Settled}
 use Rattle.choices.proofs.JoinLaws.{length_joined, joined_less, joined_kept, passed_still}
 
--- a table of zeros whose front was filled with no number above its place
-pub fill_back : (n : ℕ) {g : ℕ → ℕ} {m : ℕ} {A : List ℕ} → Filled 0 g (replicate n 0) m A → ((h : ℕ) → g h ≤ h) → NeverAhead A
-fill_back n {g} {m} {A} w k j =
-    bool_cases (ltb j m)
-    (λ y. rw (w.done j (omega arith) (ltb-true _ _ y)) (k j))
-    (λ y. rw (w.left j (ltb-false _ _ y)) (zeros n j))
-  where
-    zeros : (n j : ℕ) → get_or (replicate n 0) j 0 ≤ j
-    zeros n j = grind (arith, common_steps)
+-- a table of zeros has no number above its place
+pub zeros_back : (n : ℕ) → NeverAhead (replicate n 0)
+zeros_back n j = grind (arith, common_steps)
+
+-- nor has a table that had none, with none put at a place
+pub set_back : (A : List ℕ) (j v : ℕ) → j < length A → NeverAhead A → v ≤ j → NeverAhead (set A j v)
+set_back A j v l b e h =
+    bool_cases (eqb h j)
+    (λ y. rw (eqb-true _ _ y) (rw (get_or-set_same A j v 0 l) e))
+    (λ n. rw (get_or-set_other A j h v 0 (eqb-false _ _ n)) (b h))
 
 module _ (P T : List ℕ) (i : ℕ) where
   -- in P, or under it

@@ -50,7 +50,11 @@ fn settle(p: &[u32], t: &[u32], i: usize, own: &mut [u32]) -> bool
     requires { SizedPattern Pattern.MAX_M p.now × (i + length p.now ≤ length t.now) × (own.old ≡ p.now) }
     ensures { (result ≡ bound_at p.now t.now i) × (length own.new ≡ length p.now) × (result ≡ true → Lowest p.now t.now i own.new) }
 {
-    let ties = Ties::of(p, t, i);
+    let mut ties = Ties {
+        above: [0; Pattern::MAX_M],
+        under: [0; Pattern::MAX_M],
+    };
+    ties.find(p, t, i);
     cut(own, t, i);
     while ties.pass(own) {}
     !own.contains(&0)

@@ -19,18 +19,15 @@ pub struct Ties {
 }
 
 impl Ties {
-    // The ties of every pair.
-    pub fn of(p: &[u32], t: &[u32], i: usize) -> Self
+    // Finds the ties of every pair. In place: tables that a function makes and answers are moved, and that costs a short pattern more than its ties.
+    pub fn find(&mut self, p: &[u32], t: &[u32], i: usize)
         requires { SizedPattern Pattern.MAX_M p.now × (i + length p.now ≤ length t.now) }
-        ensures { Tied p.now t.now i result.above result.under }
+        ensures { Tied p.now t.now i self.new.above self.new.under }
     {
-        let mut above = [0; Pattern::MAX_M];
-        let mut under = [0; Pattern::MAX_M];
         for j in 0..p.len() {
-            above[j] = tie(p, t, i, p[j], j);
-            under[j] = tie(p, t, i, t[i + j], j);
+            self.above[j] = tie(p, t, i, p[j], j);
+            self.under[j] = tie(p, t, i, t[i + j], j);
         }
-        Ties { above, under }
     }
 
     // Joins each pair with the two that it is tied to; whether this changed a set.
@@ -41,8 +38,13 @@ impl Ties {
     {
         let mut changed = false;
         for j in 0..own.len() {
-            changed |= join(own, self.above[j] as usize, j);
-            changed |= join(own, self.under[j] as usize, j);
+            // A branch, and no `|=`: the flag is then written where the sets are, and not worked out at each join.
+            if join(own, self.above[j] as usize, j) {
+                changed = true;
+            }
+            if join(own, self.under[j] as usize, j) {
+                changed = true;
+            }
         }
         changed
     }

@@ -4,7 +4,7 @@
 pub mod search;
 pub mod twice;
 
-ghost use Rattle.std.specs.Prelude.{◌≡◌, min, ◌^◌, ◌<◌, pos};
+ghost use Rattle.std.specs.Prelude.{◌≡◌, ◌+◌, ◌*◌, min, ◌^◌, ◌<◌, pos, neg_ℤ};
 ghost use Rattle.codes.specs.Codes.{refused_code, number_code, wrote_of, written_code, written_number};
 
 use inputs::refusal::Refusal;
@@ -17,19 +17,33 @@ pub fn told_place(place: usize) -> usize
     place.min(farthest)
 }
 
+// Minus a number and 256 times a place, for any number, in the table or not.
+pub fn placed_code(number: u32, place: usize) -> i64
+    ensures { result ≡ neg_ℤ (pos (number + 256 * min place (2 ^ 48))) }
+{
+    let both = number as usize + 256 * told_place(place);
+    0 - (both as i64)
+}
+
+// Minus a number alone.
+pub fn unplaced_code(number: u32) -> i64
+    ensures { result ≡ neg_ℤ (pos number) }
+{
+    0 - (number as i64)
+}
+
 // Minus the refusal's number and 256 times its place.
 pub fn refusal_code(r: Refusal) -> i64
     ensures { result ≡ refused_code r }
 {
-    let both = u32::from(r.kind) as usize + 256 * told_place(r.place);
-    0 - (both as i64)
+    placed_code(u32::from(r.kind), r.place)
 }
 
 // Minus the refusal's number alone.
 pub fn number_code(r: Refusal) -> i64
     ensures { result ≡ number_code r }
 {
-    0 - (u32::from(r.kind) as i64)
+    unplaced_code(u32::from(r.kind))
 }
 
 // A length or a total.

@@ -7,7 +7,7 @@ use crate::{length_code, refusal_code};
 use hits::work::Work;
 use inputs::checks::checked;
 use inputs::refusal::{Kind, Refusal};
-use inputs::rule::{Rule, search};
+use inputs::rule::Searches;
 use letters::letter::Letter;
 use letters::strings::{Pattern, Text};
 
@@ -39,11 +39,11 @@ pub fn told(answer: Result<Work, Refusal>, work: &mut [u64]) -> i64
 
 // The total or minus the refusal, with the starts and the three counts in lent memory. Where fewer than three counts are lent nothing is searched:
 // the checks alone say what is refused.
-pub fn called<R: Rule>(k: u32, p: &[u32], t: &[u32], hits: &mut [u32], work: &mut [u64]) -> i64
+pub fn called<R: Searches>(k: u32, p: &[u32], t: &[u32], hits: &mut [u32], work: &mut [u64]) -> i64
     ensures { Called R.turns Letter.MAX_K Pattern.MAX_M Text.MAX_N k p.now t.now hits.old work.old result hits.new work.new }
 {
     if work.len() < 3 {
         return too_few(k, p, t);
     }
-    told(search::<R>(k, p, t, hits), work)
+    told(R::searched(k, p, t, hits), work)
 }

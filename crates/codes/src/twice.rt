@@ -3,10 +3,10 @@ ghost use Rattle.std.specs.Prelude.{◌≡◌};
 ghost use Rattle.codes.specs.Called.{Lists};
 
 use crate::search::called;
-use inputs::rule::Rule;
+use inputs::rule::Searches;
 use inputs::twice::Twice;
 
-pub fn called_twice<R: Rule>(
+pub fn called_twice<R: Searches>(
     k: u32,
     p: &[u32],
     t: &[u32],

@@ -1,5 +1,6 @@
 // The engines, in the report's order, and their names there.
-ghost use Rattle.std.specs.Prelude.{◌≡◌, ◌+◌, ◌≤◌, [], ◌∷◌, ◌++◌, length};
+ghost use Rattle.std.specs.Prelude.{◌≡◌, ◌+◌, ◌≤◌, [], ◌∷◌, ◌++◌, length, get_or};
+ghost use Rattle.engines.specs.declared.engine.Engine.TheVariants.{Hybrid};
 ghost use Rattle.std.proofs.lemmas.List.Edits.{sets};
 ghost use Rattle.engines.specs.Engines.{the_six, name_of};
 
@@ -28,6 +29,20 @@ impl Engine {
         Engine::ShiftAnd,
         Engine::Hybrid,
     ];
+
+    // The one at an index of the report's order; Hybrid at any index past it.
+    pub fn at(i: usize) -> Engine
+        ensures { result ≡ get_or the_six i Hybrid }
+    {
+        match i {
+            0 => Engine::Brute,
+            1 => Engine::Kmp,
+            2 => Engine::Bm,
+            3 => Engine::Sunday,
+            4 => Engine::ShiftAnd,
+            _ => Engine::Hybrid,
+        }
+    }
 
     // Its name, without the space that stands after it in the report.
     pub fn name(self) -> &'static str

@@ -16,7 +16,7 @@ ghost use Rattle.hybrid.specs.Hybrid.{stretched, hybrid_turn, hybrid_run, Hybrid
 
 use hits::work::Work;
 use inputs::refusal::Refusal;
-use inputs::rule::Rule;
+use inputs::rule::{Rule, Searches};
 use letters::letter::{Letter, common};
 use letters::strings::{Pattern, Text};
 use pattern::masks::Masks;
@@ -117,6 +117,12 @@ impl Rule for Hybrid {
             shift: 0,
             steps,
         }
+    }
+}
+
+impl Searches for Hybrid {
+    fn searched(k: u32, p: &[u32], t: &[u32], list: &mut [u32]) -> Result<Work, Refusal> {
+        search(k, p, t, list)
     }
 }
 

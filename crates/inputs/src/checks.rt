@@ -93,7 +93,9 @@ fn placed(m: usize, n: usize, start: usize, lent: usize) -> Result<(), Refusal>
     Ok(())
 }
 
-// What the checks say of a call that asks about one start and writes an element for each letter of the pattern.
+// What the checks say of a call that asks about one start and writes an element for each letter of the pattern. Such a call does little else, so that
+// handing a result on through memory would be told in its time.
+#[inline(always)]
 pub fn checked_at(k: u32, p: &[u32], t: &[u32], start: usize, lent: usize) -> Result<(), Refusal>
     ensures { result ≡ verdict_at Letter.MAX_K Pattern.MAX_M Text.MAX_N k p.now t.now start lent }
 {

@@ -23,7 +23,14 @@ pub trait Rule {
         ensures { (result ≡ work_of (hits p.now t.now) (turns p.now t.now)) × (list.new ≡ over (hits p.now t.now) list.old) };
 }
 
-// Every start at which the pattern meets the text, by an engine.
+// An engine's public search, for what serves any engine: that goes through it, so that all that its contract says, the bounds of its work too, is of the
+// code that runs. A trait beside `Rule`, since a public search is made of the run.
+pub trait Searches: Rule {
+    fn searched(k: u32, p: &[u32], t: &[u32], list: &mut [u32]) -> Result<Work, Refusal>
+        ensures { Searched Self.turns Letter.MAX_K Pattern.MAX_M Text.MAX_N k p.now t.now list.old result list.new };
+}
+
+// Every start at which the pattern meets the text, by an engine's rule: what each engine's public search is.
 pub fn search<R: Rule>(k: u32, p: &[u32], t: &[u32], list: &mut [u32]) -> Result<Work, Refusal>
     ensures { Searched R.turns Letter.MAX_K Pattern.MAX_M Text.MAX_N k p.now t.now list.old result list.new }
 {

@@ -19,7 +19,7 @@ pub trait Starts {
 
     // A turn at start i.
     fn step(&self, p: &[u32], t: &[u32], i: usize) -> Turned
-        requires { Sized Pattern.MAX_M Text.MAX_N p.now t.now × ready self.now p.now × (i + length p.now ≤ length t.now) }
+        requires { ready self.now p.now × (i + length p.now ≤ length t.now) }
         ensures { turn_of i result ≡ turn p.now t.now i };
 }
 

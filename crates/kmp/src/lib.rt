@@ -19,7 +19,7 @@ ghost use Rattle.kmp.specs.Kmp.{Known, KmpReady, NotSingleAt, Scanned, at_of, sh
 
 use hits::work::{Work, note};
 use inputs::refusal::Refusal;
-use inputs::rule::Rule;
+use inputs::rule::{Rule, Searches};
 use letters::letter::{Letter, common, lone};
 use letters::strings::{Pattern, Text};
 use pattern::Prepared;
@@ -193,6 +193,12 @@ impl Rule for Kmp {
             shift,
             steps: 0,
         }
+    }
+}
+
+impl Searches for Kmp {
+    fn searched(k: u32, p: &[u32], t: &[u32], list: &mut [u32]) -> Result<Work, Refusal> {
+        search(k, p, t, list)
     }
 }
 

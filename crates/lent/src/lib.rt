@@ -18,7 +18,9 @@ pub fn put_bytes(out: &mut [u8], at: usize, bytes: &[u8]) -> usize
     requires { at + length bytes.now ≤ length out.old }
     ensures { Stored out.old at bytes.now result out.new }
 {
-    let end = at + bytes.len();
-    out[at..end].copy_from_slice(bytes);
-    end
+    // Byte by byte: a copy of a part would have an archive for C ask for memmove, which a caller without a C library need not have.
+    for i in 0..bytes.len() {
+        out[at + i] = bytes[i];
+    }
+    at + bytes.len()
 }

@@ -1,5 +1,6 @@
 // The loop over a letter's members, from the lowest set bit upward.
-ghost use Rattle.std.specs.Prelude.{◌≡◌};
+ghost use Rattle.std.specs.Prelude.{◌≡◌, ◌-◌};
+ghost use Rattle.std.specs.Int.Bits.{bit_and};
 ghost use Rattle.std.specs.Int.Count.{count_trailing_zeros};
 ghost use Rattle.std.specs.Iterator.{YieldsFirst, item_count};
 ghost use Rattle.letters.specs.declared.letter.TheConstants.Letter.{MAX_K};
@@ -26,7 +27,7 @@ impl Iterator for Members {
             return None;
         }
         let b = lowest(self.left);
-        self.left &= self.left - 1;
+        self.left = rest(self.left);
         Some(b)
     }
 }
@@ -45,6 +46,16 @@ pub fn lowest(c: u32) -> u32
     ensures { result ≡ count_trailing_zeros Letter.MAX_K c }
 {
     c.trailing_zeros()
+}
+
+// The letter without its lowest member.
+pub fn rest(c: u32) -> u32
+    ensures { result ≡ bit_and c (c - 1) }
+{
+    if c == 0 {
+        return 0;
+    }
+    c & (c - 1)
 }
 
 // The union of a table's rows over the members of c.

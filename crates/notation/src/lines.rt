@@ -66,9 +66,16 @@ impl<'a> Notation<'a> {
         }
     }
 
-    // What stands at a place of a line, in which marks may stand or not: a letter, or nothing at the line's end; and the place after it.
-    fn read_one(&self, marks: bool, sheet: &[u8], at: usize) -> Result<(Option<u32>, usize), Wrong>
-        requires { at ≤ length sheet.now }
+    // What stands at a place of a line, in which marks may stand or not: a letter, or nothing at the line's end; and the place after it. The number of
+    // letters is handed in, so that a pass over a line asks for it once: a letter that it writes may lie anywhere, for all that the compiler knows.
+    fn read_one(
+        &self,
+        k: usize,
+        marks: bool,
+        sheet: &[u8],
+        at: usize,
+    ) -> Result<(Option<u32>, usize), Wrong>
+        requires { (k ≡ length self.now) × (k ≤ Letter.MAX_K) × (at ≤ length sheet.now) }
         ensures { result ≡ one_at marks self.now at (drop at sheet.now) }
     {
         if at == sheet.len() {
@@ -78,7 +85,6 @@ impl<'a> Notation<'a> {
         if b == b'\n' {
             return Ok((None, next));
         }
-        let k = self.len();
         let j = self.number(b);
         if j < k {
             return Ok((Some(only(j)), next));
@@ -104,11 +110,12 @@ impl<'a> Notation<'a> {
         requires { from ≤ length sheet.now }
         ensures { result ≡ counted_of (read_from marks self.now out from (drop from sheet.now)) }
     {
+        let k = self.len();
         let mut at = from;
         let mut n: usize = 0;
         // A letter says where the next begins, so no range gives the places.
         loop {
-            match self.read_one(marks, sheet, at)? {
+            match self.read_one(k, marks, sheet, at)? {
                 (Some(_), next) => {
                     n += 1;
                     at = next;
@@ -124,10 +131,11 @@ impl<'a> Notation<'a> {
         requires room { Room (read_from marks self.now out from (drop from sheet.now)) (length list.old) }
         ensures { list.new ≡ over (letters_of (read_from marks self.now out from (drop from sheet.now))) list.old }
     {
+        let k = self.len();
         let mut at = from;
         let mut i: usize = 0;
         // As above, a letter says where the next begins; how many there are is not known before.
-        while let Ok((Some(set), next)) = self.read_one(marks, sheet, at) {
+        while let Ok((Some(set), next)) = self.read_one(k, marks, sheet, at) {
             list[i] = set;
             i += 1;
             at = next;

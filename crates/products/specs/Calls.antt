@@ -1,17 +1,13 @@
 -- The product calls from C: the length of the result, or whether two products meet; or minus the refusal's number and 256 times its place.
-use Rattle.std.specs.Prelude.{ℕ, Bool, List, map, ℤ, length}
+use Rattle.std.specs.Prelude.{ℕ, List, map, ℤ, length}
 use Rattle.promise.specs.Promised.{Promised}
 use Rattle.hits.specs.Counts.{tally}
-use Rattle.inputs.specs.declared.refusal.Kind.{Kind}
 use Rattle.codes.specs.Codes.{code_of, WrittenCalled}
 use Rattle.products.specs.Primes.{product_of, letter_of}
-use Rattle.products.specs.Conversions.{convert_verdict, to_verdict, from_verdict}
+use Rattle.products.specs.Conversions.{to_verdict, from_verdict}
 use Rattle.products.specs.Meetings.{pair_verdict, products_meet}
 
 -- d is the lent memory before, `left` afterwards
-abbrev pub ConvertCalled : Kind → (ℕ → ℕ → Bool) → (ℕ → ℕ) → ℕ → ℕ → ℕ → ℕ → List ℕ → List ℕ → ℤ → List ℕ → Type 0
-ConvertCalled kind wrong makes L K N k xs d r left = WrittenCalled (convert_verdict L K N k kind (wrong k) xs (length d)) (map makes xs) d r left
-
 abbrev pub ToCalled : ℕ → ℕ → ℕ → ℕ → List ℕ → List ℕ → ℤ → List ℕ → Type 0
 ToCalled L K N k cs d r left = WrittenCalled (to_verdict L K N k cs (length d)) (map product_of cs) d r left
 

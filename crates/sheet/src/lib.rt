@@ -55,8 +55,9 @@ pub fn read(
     let from = plan.alphabet.from;
     let end = from + plan.alphabet.size;
     let letters = &sheet[from..end];
-    let notation = Notation::of(letters);
+    // Before the table is made: with this loop behind it the compiler keeps two more copies of the table.
     put_bytes(alphabet, 0, letters);
+    let notation = Notation::of(letters);
     notation.put_letters(Pattern::MARKS, sheet, plan.pattern.from, pattern);
     notation.put_letters(Text::MARKS, sheet, plan.text.from, text);
     Ok(sizes_of(plan))

@@ -1,9 +1,9 @@
 // A sheet walked whole and checked, before anything is written. Reading and measuring it both begin so.
-ghost use Rattle.std.specs.Prelude.{◌≡◌, ◌≤◌};
-ghost use Rattle.sheet.specs.Reader.{planning};
-ghost use Rattle.sheet.specs.Answers.{planned_of};
+ghost use Rattle.std.specs.Prelude.{◌≡◌, ◌+◌, ◌-◌, ◌≤◌, length, take, drop};
+ghost use Rattle.sheet.specs.Reader.{planning, string_sections};
+ghost use Rattle.sheet.specs.Answers.{both_of, planned_of};
 
-use crate::sections::{Section, alphabet_section, string_sections};
+use crate::sections::{Both, Section, alphabet_section, string_sections};
 use crate::{Sheet, Sizes};
 use inputs::refusal::{Kind, Refusal};
 use letters::letter::Letter;
@@ -16,6 +16,17 @@ pub struct Planned {
     pub alphabet: Section,
     pub pattern: Section,
     pub text: Section,
+}
+
+// The sections of the two strings, behind that of the alphabet. A function of its own, so that a sheet that is refused before has no table made.
+fn strings_after(sheet: &[u8], first: Section, pattern: usize, text: usize) -> Result<Both, Refusal>
+    requires { (first.from + first.size ≤ length sheet.now) × (length (take (first.from + first.size - first.from) (drop first.from sheet.now)) ≤ Letter.MAX_K) × (first.next ≤ length sheet.now) }
+    ensures { result ≡ both_of (string_sections Pattern.MAX_M Text.MAX_N (take (first.from + first.size - first.from) (drop first.from sheet.now)) pattern text sheet.now first.next) }
+{
+    let end = first.from + first.size;
+    let letters = &sheet[first.from..end];
+    let notation = Notation::of(letters);
+    string_sections(&notation, sheet, first.next, pattern, text)
 }
 
 // The plan of a sheet, for lists of these lengths.
@@ -31,10 +42,7 @@ pub(crate) fn plan(
         return Err(Kind::SheetLength.at(0));
     }
     let first = alphabet_section(sheet, alphabet)?;
-    let end = first.from + first.size;
-    let letters = &sheet[first.from..end];
-    let notation = Notation::of(letters);
-    let both = string_sections(&notation, sheet, first.next, pattern, text)?;
+    let both = strings_after(sheet, first, pattern, text)?;
     Ok(Planned {
         alphabet: first,
         pattern: both.pattern,

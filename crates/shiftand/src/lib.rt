@@ -16,7 +16,7 @@ ghost use Rattle.shiftand.specs.ShiftAnd.{shiftand_turn, shiftand_run, word_turn
 
 use hits::work::Work;
 use inputs::refusal::Refusal;
-use inputs::rule::Rule;
+use inputs::rule::{Rule, Searches};
 use letters::letter::Letter;
 use letters::strings::{Pattern, Text};
 use pattern::masks::Masks;
@@ -75,6 +75,12 @@ impl Rule for ShiftAnd {
             shift: 0,
             steps: t.len() as u64,
         }
+    }
+}
+
+impl Searches for ShiftAnd {
+    fn searched(k: u32, p: &[u32], t: &[u32], list: &mut [u32]) -> Result<Work, Refusal> {
+        search(k, p, t, list)
     }
 }
 

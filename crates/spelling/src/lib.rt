@@ -74,7 +74,7 @@ pub fn put_line(alphabet: &[u8], letters: &[u32], out: &mut [u8], at: usize) -> 
     ensures { Stored out.old at (line alphabet.now letters.now) result out.new }
 {
     let mut e = at;
-    // An index, since the must-fail edit `every_other_letter_written` of this crate steps it.
+    // An index, since the must-fail edit `every_other_letter_written` of this crate takes every other one.
     for i in 0..letters.len() {
         e = put_letter(alphabet, letters[i], out, e);
     }

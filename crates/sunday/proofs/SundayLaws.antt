@@ -12,6 +12,8 @@ use Rattle.letters.specs.Sizes.{Sized}
 use Rattle.letters.proofs.Truth.{bool_cases}
 use Rattle.hits.specs.Hits.{within, hit_at, hits}
 use Rattle.hits.specs.Turns.{Turn, Run, idle}
+use Rattle.hits.specs.Counts.{turn_of}
+use Rattle.hits.specs.declared.work.Turned.{Turned}
 use Rattle.hits.proofs.HitLaws.{no_hit, one_from}
 use Rattle.hits.proofs.ScanLaws.{scan_hit, tests_le}
 use Rattle.hits.proofs.RunLaws.{Sound, finds_all, by_start, per_start, no_start, start_small}
@@ -77,6 +79,11 @@ module _ (P T : List ℕ) where
         near = next_le i l;
         right = ap (λ b. keep b i []) (scan_hit P T i l) ∙ sym (one_from P T (next_start P T i - suc i) i (λ j u v. next_passes i l j u (omega arith)));
       }
+
+  -- the next start is on, and at most one past the text
+  pub turn_ahead : (i : ℕ) → i + length P ≤ length T → (r : Turned) → turn_of i r ≡ sunday_turn P T i → (i < r.next) × (r.next ≤ length T + 1)
+  unfolding sunday_turn
+  turn_ahead i l r e = omega (arith, ap (λ (t : Turn ℕ). t.next) e, next_gt i l, next_le i l)
 
   unfoldable pub sound : Sound P T (within P T) (sunday_turn P T) (suc (length T)) 0
   sound = by_start (passing settles)

@@ -18,7 +18,7 @@ ghost use Rattle.sunday.specs.Sunday.{next_start, sunday_turn, sunday_run};
 use hits::scan::reach_to;
 use hits::work::{Turned, Work};
 use inputs::refusal::Refusal;
-use inputs::rule::Rule;
+use inputs::rule::{Rule, Searches};
 use inputs::starts::{Starts, run_starts};
 use letters::letter::Letter;
 use letters::strings::{Pattern, Text};
@@ -64,6 +64,12 @@ impl Rule for Sunday {
     // The run over all starts.
     fn run(p: &[u32], t: &[u32], list: &mut [u32]) -> Work {
         run_starts(&Sunday, p, t, list)
+    }
+}
+
+impl Searches for Sunday {
+    fn searched(k: u32, p: &[u32], t: &[u32], list: &mut [u32]) -> Result<Work, Refusal> {
+        search(k, p, t, list)
     }
 }
 

@@ -7,7 +7,6 @@ use lib.ListN.{length}
 use Rattle.letters.proofs.Truth.{and_true_l, and_true_r}
 use Rattle.shifts.specs.Shift.{trials}
 use Rattle.hits.specs.Singles.{all_single}
-use Rattle.pattern.proofs.EntryLaws.{end_table}
 use Rattle.pattern.proofs.ShiftTable.{end_shift}
 use Rattle.bm.specs.Bm.{first_shift}
 use Rattle.bm.proofs.StepLaws.{tests_sure, tests_tried}
@@ -27,7 +26,7 @@ returns-then-b c =
     let y : (all_single P 0 (length P) && all_single T (i + (length P - g)) g) ≡ true = rw z (sym h.single ∙ c.if-b.true) in (
       c.min.ensures
           ∙ sym
-          (end_shift P T c.args.self.now.by.now i g (end_table c.args.self.now.by.now r.sized r.shifts) h.inside h.rest
+          (end_shift P T c.args.self.now.by.now i g r.ends h.inside h.rest
           (and_true_l (all_single P 0 (length P)) _ y)
           (and_true_r (all_single P 0 (length P)) _ y)),
       sym (tests_sure P T i g y),

@@ -13,31 +13,31 @@ overflow_add-result c =
 
 pub returns-then-left-m : goal.returns-then-left-m
 returns-then-left-m c =
-    let r = c.requires.1 in
-    turn_none r.sized.some (stopped r.single c.requires.2 c.scan_back-b.ensures) c.if-left-m.true _ c.fail_shift.ensures
+    let r = c.requires.0 in
+    turn_none r.sized.some (stopped r.single c.requires.1 c.scan_back-b.ensures) c.if-left-m.true _ c.fail_shift.ensures
 
 pub first_shift-a-requires-clause-stopped : goal.first_shift-a-requires-clause-stopped
-first_shift-a-requires-clause-stopped c = stopped c.requires.1.single c.requires.2 c.scan_back-b.ensures
+first_shift-a-requires-clause-stopped c = stopped c.requires.0.single c.requires.1 c.scan_back-b.ensures
 
 pub overflow_add-result-then-left-eq0 : goal.overflow_add-result-then-left-eq0
 overflow_add-result-then-left-eq0 c =
-    let r = c.requires.1 in
-    omega (arith, by_first r.sized.some (stopped r.single c.requires.2 c.scan_back-b.ensures) _ c.first_shift-a.ensures.0)
+    let r = c.requires.0 in
+    omega (arith, by_first r.sized.some (stopped r.single c.requires.1 c.scan_back-b.ensures) _ c.first_shift-a.ensures.0)
 
 pub returns-then-left-eq0 : goal.returns-then-left-eq0
 returns-then-left-eq0 c =
-    let r = c.requires.1 in
+    let r = c.requires.0 in
     let w = c.first_shift-a.ensures in
-    turn_hit r.sized.some (stopped r.single c.requires.2 c.scan_back-b.ensures) c.if-left-eq0.true _ _ w.0 w.1
+    turn_hit r.sized.some (stopped r.single c.requires.1 c.scan_back-b.ensures) c.if-left-eq0.true _ _ w.0 w.1
 
 pub overflow_add-result-2 : goal.overflow_add-result-2
 overflow_add-result-2 c =
-    let r = c.requires.1 in
-    omega (arith, by_larger r.sized.some (stopped r.single c.requires.2 c.scan_back-b.ensures) _ _ _ c.first_shift-a.ensures.0 c.fail_shift-s.ensures c.max.ensures)
+    let r = c.requires.0 in
+    omega (arith, by_larger r.sized.some (stopped r.single c.requires.1 c.scan_back-b.ensures) _ _ _ c.first_shift-a.ensures.0 c.fail_shift-s.ensures c.max.ensures)
 
 pub returns : goal.returns
 returns c =
-    let r = c.requires.1 in
+    let r = c.requires.0 in
     let w = c.first_shift-a.ensures in
     rw c.max.ensures
-    (turn_fail r.sized.some (stopped r.single c.requires.2 c.scan_back-b.ensures) (omega arith) _ _ _ w.0 c.fail_shift-s.ensures w.1)
+    (turn_fail r.sized.some (stopped r.single c.requires.1 c.scan_back-b.ensures) (omega arith) _ _ _ w.0 c.fail_shift-s.ensures w.1)

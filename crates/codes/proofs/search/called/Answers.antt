@@ -10,10 +10,10 @@ returns-then-work-lt3 g c = called_short g.R.Rule.turns _ _ _ _ _ _ _ _ c.if-wor
 
 pub told-requires : goal.told-requires
 told-requires g c =
-    let few = called_total g.R.Rule.turns _ _ _ _ _ _ _ _ _ c.search.ensures in
+    let few = called_total g.R.Rule.turns _ _ _ _ _ _ _ _ _ c.searched.ensures in
     (omega (arith, few), c.if-work-lt3.false)
 
 pub returns : goal.returns
 returns g c =
-    called_full g.R.Rule.turns _ _ _ _ _ _ _ _ c.if-work-lt3.false _ _ _ _ c.search.ensures
+    called_full g.R.Rule.turns _ _ _ _ _ _ _ _ c.if-work-lt3.false _ _ _ _ c.searched.ensures
     (read_back _ c.told.type_inv ∙ c.told.ensures.0) c.told.ensures.1

@@ -1,5 +1,4 @@
 -- `sheet::plan::plan` meets its contract: what the sections say, one after the other, is the plan. Assumes nothing.
-use native.Mathlib.Omega.{arith}
 use mathlib.Core.Path.{◌≡◌, sym, ap, ◌∙◌}
 use borrow.Author.Rules.{rules}
 use borrow.Author.Tests.{lt-ltb, le-ltb}
@@ -17,27 +16,18 @@ unfolding planning refuse_at
 returns-in_err-first c =
     rw (le-ltb _ _ c.if-sheet-gt-MAX_BYTES.false, not_found _ _ (sym c.in_err-first.was ∙ c.alphabet_section.ensures)) (search rules)
 
-pub overflow_add-end : goal.overflow_add-end
-overflow_add-end c = omega (arith, (alphabet_known _ _ _ _ (sym c.in_ok-first.was ∙ c.alphabet_section.ensures)).part.within)
-
-pub slice_bounds-letters-end : goal.slice_bounds-letters-end
-slice_bounds-letters-end c = (alphabet_known _ _ _ _ (sym c.in_ok-first.was ∙ c.alphabet_section.ensures)).part.within
-
-pub of-notation-requires : goal.of-notation-requires
-of-notation-requires c = (alphabet_known _ _ _ _ (sym c.in_ok-first.was ∙ c.alphabet_section.ensures)).part.few
-
-pub string_sections-requires : goal.string_sections-requires
-string_sections-requires c = (alphabet_known _ _ _ _ (sym c.in_ok-first.was ∙ c.alphabet_section.ensures)).ends
+pub strings_after-requires : goal.strings_after-requires
+strings_after-requires c =
+    let a = alphabet_known _ _ _ _ (sym c.in_ok-first.was ∙ c.alphabet_section.ensures) in
+    (a.part.within, a.part.few, a.ends)
 
 pub returns-in_err-both : goal.returns-in_err-both
 returns-in_err-both c =
     let a = alphabet_known _ _ _ _ (sym c.in_ok-first.was ∙ c.alphabet_section.ensures) in
-    let e = rw c.of-notation.ensures at c.string_sections.ensures in
     let r : c.from_residual-in_err-both.result ≡ Err c.in_err-both.field-0.0 = search rules in
-    r ∙ strings_refused _ _ _ _ _ _ _ _ c.if-sheet-gt-MAX_BYTES.false _ a _ (sym c.in_err-both.was ∙ e)
+    r ∙ strings_refused _ _ _ _ _ _ _ _ c.if-sheet-gt-MAX_BYTES.false _ a _ (sym c.in_err-both.was ∙ c.strings_after.ensures)
 
 pub returns : goal.returns
 returns c =
     let a = alphabet_known _ _ _ _ (sym c.in_ok-first.was ∙ c.alphabet_section.ensures) in
-    let e = rw c.of-notation.ensures at c.string_sections.ensures in
-    whole _ _ _ _ _ _ _ _ c.if-sheet-gt-MAX_BYTES.false _ a _ (sym c.in_ok-both.was ∙ e)
+    whole _ _ _ _ _ _ _ _ c.if-sheet-gt-MAX_BYTES.false _ a _ (sym c.in_ok-both.was ∙ c.strings_after.ensures)

@@ -17,7 +17,7 @@ returns-then-j-k c =
 
 pub returns-in-42 : goal.returns-in-42
 returns-in-42 c =
-    ap (λ (x : ℕ). Ok (Some x, c.args.at + 1)) (c.all.ensures ∙ ap (λ (k : ℕ). 2 ^ k - 1) c.len-k.ensures.0)
+    ap (λ (x : ℕ). Ok (Some x, c.args.at + 1)) (c.all.ensures ∙ ap (λ (k : ℕ). 2 ^ k - 1) c.requires.0)
     ∙ one_star _ (record { within = omega arith; on = c.if-b-eq10.false; number = c.number-j.ensures }) (omega arith) c.in-42.is (omega arith)
 
 pub returns-in_err-set-in-91 : goal.returns-in_err-set-in-91
