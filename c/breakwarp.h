@@ -21,9 +21,9 @@
  * slice keeps its contents.
  *
  * STACK. Bytes of stack that a call uses, measured on x86-64 by c/stack.c, which runs each call on
- * a thread whose stack was filled with a pattern: report 68,281 (it holds the text and the list of
- * hits of a sheet), kmp 4,216, read_sheet 4,152, bound_choice 2,232, bound 2,152, to_products 2,072,
- * bm 1,032, hybrid 392, every other call less.
+ * a thread whose stack was filled with a pattern: report 67,993 (it holds the text and the list of
+ * hits of a sheet), kmp 4,152, to_products 2,072, read_sheet 1,785, bound_choice 1,160, bound 1,128,
+ * bm 1,016, hybrid 392, every other call less.
  */
 #ifndef BREAKWARP_H
 #define BREAKWARP_H
@@ -35,7 +35,7 @@
 extern "C" {
 #endif
 
-#define BREAKWARP_VERSION "1.4.2"
+#define BREAKWARP_VERSION "1.4.3"
 
 /* Limits. */
 #define BREAKWARP_MAX_K 32            /* base letters */
