@@ -25,7 +25,8 @@ use hits::scan::{Back, scan_back};
 use hits::work::{Turned, Work};
 use inputs::refusal::Refusal;
 use inputs::rule::{Rule, Searches};
-use inputs::starts::{Starts, run_starts};
+use inputs::starts::run_starts;
+use inputs::steps::Steps;
 use letters::letter::Letter;
 use letters::strings::{Pattern, Text};
 use pattern::tables::Shifts;
@@ -68,7 +69,7 @@ impl<'a> Readied<'a> {
     }
 }
 
-impl<'a> Starts for Readied<'a> {
+impl<'a> Steps for Readied<'a> {
     ghost turn = { bm_turn };
 
     ghost ready = { λ e P. BmReady MAX_M P e.by.now e.whole };

@@ -21,7 +21,7 @@ ghost use Rattle.report.specs.Report.{ReportCalled};
 use bm::Bm;
 use bound::c::choice_called;
 use brute::Brute;
-use codes::search::called;
+use codes::search::called_through;
 use hybrid::Hybrid;
 use kmp::Kmp;
 use letters::letter::Letter;
@@ -45,7 +45,7 @@ pub extern "C" fn breakwarp_brute(
 ) -> i64
     ensures { Called brute_run Letter.MAX_K Pattern.MAX_M Text.MAX_N k p.now t.now hits.old work.old result hits.new work.new }
 {
-    called::<Brute>(k, p, t, hits, work)
+    called_through::<Brute>(k, p, t, hits, work)
 }
 
 #[unsafe(no_mangle)]
@@ -58,7 +58,7 @@ pub extern "C" fn breakwarp_kmp(
 ) -> i64
     ensures { Called kmp_run Letter.MAX_K Pattern.MAX_M Text.MAX_N k p.now t.now hits.old work.old result hits.new work.new }
 {
-    called::<Kmp>(k, p, t, hits, work)
+    called_through::<Kmp>(k, p, t, hits, work)
 }
 
 #[unsafe(no_mangle)]
@@ -71,7 +71,7 @@ pub extern "C" fn breakwarp_bm(
 ) -> i64
     ensures { Called bm_run Letter.MAX_K Pattern.MAX_M Text.MAX_N k p.now t.now hits.old work.old result hits.new work.new }
 {
-    called::<Bm>(k, p, t, hits, work)
+    called_through::<Bm>(k, p, t, hits, work)
 }
 
 #[unsafe(no_mangle)]
@@ -84,7 +84,7 @@ pub extern "C" fn breakwarp_sunday(
 ) -> i64
     ensures { Called sunday_run Letter.MAX_K Pattern.MAX_M Text.MAX_N k p.now t.now hits.old work.old result hits.new work.new }
 {
-    called::<Sunday>(k, p, t, hits, work)
+    called_through::<Sunday>(k, p, t, hits, work)
 }
 
 #[unsafe(no_mangle)]
@@ -97,7 +97,7 @@ pub extern "C" fn breakwarp_shiftand(
 ) -> i64
     ensures { Called shiftand_run Letter.MAX_K Pattern.MAX_M Text.MAX_N k p.now t.now hits.old work.old result hits.new work.new }
 {
-    called::<ShiftAnd>(k, p, t, hits, work)
+    called_through::<ShiftAnd>(k, p, t, hits, work)
 }
 
 #[unsafe(no_mangle)]
@@ -110,7 +110,7 @@ pub extern "C" fn breakwarp_hybrid(
 ) -> i64
     ensures { Called hybrid_run Letter.MAX_K Pattern.MAX_M Text.MAX_N k p.now t.now hits.old work.old result hits.new work.new }
 {
-    called::<Hybrid>(k, p, t, hits, work)
+    called_through::<Hybrid>(k, p, t, hits, work)
 }
 
 #[unsafe(no_mangle)]

@@ -12,7 +12,8 @@ use hits::scan::reach_to;
 use hits::work::{Turned, Work};
 use inputs::refusal::Refusal;
 use inputs::rule::{Rule, Searches};
-use inputs::starts::{Starts, run_starts};
+use inputs::starts::run_starts;
+use inputs::steps::Steps;
 use letters::letter::Letter;
 use letters::strings::{Pattern, Text};
 
@@ -35,7 +36,7 @@ pub fn step(p: &[u32], t: &[u32], i: usize) -> Turned
 #[derive(Clone, Copy, Debug, PartialEq, Eq)]
 pub struct Brute;
 
-impl Starts for Brute {
+impl Steps for Brute {
     ghost turn = { brute_turn };
 
     ghost ready = { λ e P. Unit {0} };

@@ -5,4 +5,5 @@ pub mod checks;
 pub mod refusal;
 pub mod rule;
 pub mod starts;
+pub mod steps;
 pub mod twice;

@@ -7,9 +7,11 @@ ghost use Rattle.hits.specs.Counts.{turn_of, work_of};
 ghost use Rattle.lent.specs.Over.{over};
 ghost use Rattle.inputs.specs.Starts.{Settling, starts_run};
 
+use crate::steps::Steps;
 use hits::work::{Turned, Work, note};
 use letters::strings::{Pattern, Text};
 
+// A turn for strings within their limits, which is what the run over all starts asks for.
 pub trait Starts {
     // What the rule does at a start.
     ghost turn: { List ℕ → List ℕ → ℕ → Turn ℕ };
@@ -19,8 +21,19 @@ pub trait Starts {
 
     // A turn at start i.
     fn step(&self, p: &[u32], t: &[u32], i: usize) -> Turned
-        requires { ready self.now p.now × (i + length p.now ≤ length t.now) }
+        requires { Sized Pattern.MAX_M Text.MAX_N p.now t.now × ready self.now p.now × (i + length p.now ≤ length t.now) }
         ensures { turn_of i result ≡ turn p.now t.now i };
+}
+
+// What holds for strings of any lengths holds within the limits.
+impl<S: Steps> Starts for S {
+    ghost turn = { S.turn };
+
+    ghost ready = { S.ready };
+
+    fn step(&self, p: &[u32], t: &[u32], i: usize) -> Turned {
+        Steps::step(self, p, t, i)
+    }
 }
 
 // The run over all starts, for turns that settle the starts that they pass, and counts that fit a word.

@@ -19,7 +19,8 @@ use hits::scan::reach_to;
 use hits::work::{Turned, Work};
 use inputs::refusal::Refusal;
 use inputs::rule::{Rule, Searches};
-use inputs::starts::{Starts, run_starts};
+use inputs::starts::run_starts;
+use inputs::steps::Steps;
 use letters::letter::Letter;
 use letters::strings::{Pattern, Text};
 use pattern::after_r;
@@ -40,7 +41,7 @@ pub fn next_start(p: &[u32], t: &[u32], i: usize) -> usize
 #[derive(Clone, Copy, Debug, PartialEq, Eq)]
 pub struct Sunday;
 
-impl Starts for Sunday {
+impl Steps for Sunday {
     ghost turn = { sunday_turn };
 
     ghost ready = { λ e P. Unit {0} };

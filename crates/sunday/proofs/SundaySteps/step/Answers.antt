@@ -1,7 +1,7 @@
 -- `sunday::Sunday::step` meets its contract: how far the scan went says whether it is a hit and how many tests it took. Assumes nothing.
 use Rattle.hits.proofs.ScanLaws.{whole_scan}
 use Rattle.sunday.specs.Sunday.{sunday_turn}
-use Rattle.sunday.proofs.SundayStarts.step.Goals as goal
+use Rattle.sunday.proofs.SundaySteps.step.Goals as goal
 
 pub returns : goal.returns
 unfolding sunday_turn

@@ -4,7 +4,7 @@ use native.Mathlib.Omega.{arith}
 use lib.ListN.{length}
 use Rattle.bm.proofs.BmLaws.{fail_le}
 use Rattle.bm.proofs.StepLaws.{stopped, turn_none, turn_hit, turn_fail, by_first, by_larger}
-use Rattle.bm.proofs.ReadiedStarts.step.Goals as goal
+use Rattle.bm.proofs.ReadiedSteps.step.Goals as goal
 
 pub overflow_add-result : goal.overflow_add-result
 overflow_add-result c =
