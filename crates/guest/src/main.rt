@@ -50,7 +50,7 @@ const ANNA: [u32; 4] = [1, 4, 4, 1];
 
 const TEXT: [u32; 12] = [1, 4, 4, 1, 4, 4, 3, 4, 1, 4, 4, 5];
 
-// A turn at a hit: whether it is one, the next start, the scan and shift tests.
+// A turn: whether the start is a hit, the next start, the scan and shift tests.
 fn say_turn(to: Stdout, turned: Turned) -> io::Result<()> {
     println!(to;
         "{} {} {} {}",
