@@ -40,6 +40,7 @@ impl Rule for Guest {
     ghost turns = { brute_run };
 
     // The run over all starts.
+    #[tactic(auto, using(brute::proofs::BruteLaws::settles, brute::proofs::BruteLaws::brute_shift), unfolding(brute::specs::Brute::brute_run))]
     fn run(p: &[u32], t: &[u32], list: &mut [u32]) -> Work {
         run_starts(&Guest, p, t, list)
     }
